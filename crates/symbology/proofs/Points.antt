@@ -1,0 +1,119 @@
+-- Document 01, "Points on each side": the points P1 to P12, one statement over one list.
+-- Assumes nothing.
+use Prim.Native.Nat.{ℕ, _-_}
+use mathlib.Core.Bool.{Bool, not, _&&_}
+use mathlib.Core.List.{List, [], _∷_, map}
+use lib.ListN.{length}
+use lib.Dec.{T, eqb}
+use lib.Bits.{bitXor}
+use lib.Ieee.{mul, div, ofInt, toUnsigned}
+use Rattle.symbology.specs.declared.Params.{Params}
+use Rattle.symbology.specs.Ranges.{allHold, allBelow, lowest, tabulate, those, has}
+use Rattle.symbology.specs.Bits.{value, bits, anyOne}
+use Rattle.symbology.specs.Legal.{legal}
+use Rattle.symbology.specs.Sides.{sideSize, coreTable, coresOf, innerPatterns}
+use Rattle.symbology.specs.Patterns.{nearest, patternAt, patternColour, covered}
+use Rattle.symbology.specs.Reserved.{listVerdict, entryVerdict, isFault, faultPlace}
+use Rattle.symbology.specs.Capacity.{bitsPerModule, patternModules, dataModules, asBits, capacity, sizesOf}
+use Rattle.symbology.specs.Place.{scaled, rawPlace, placeOf}
+use Rattle.symbology.specs.Rule.{bitSum, unmet, unmetCount, unmetAt, metAt, isSuspect, suspect, turned, ends, repairs, afterTurns, repairsOf, lastWord, stuck}
+use Rattle.symbology.specs.Modes.{modeWidth, codeWidth, endNumber}
+use Rattle.symbology.specs.Stream.{readCode, readCodes, decode, byteRuns, byteStream}
+use Rattle.symbology.specs.Net.{upToLastOne, streamIn, stuffing, exceeds}
+use Rattle.symbology.specs.Tests.{firstOf, sizeRows, bufferRows, frontRows}
+use Rattle.symbology.specs.Write.{writeRows, writeAnswer}
+use Rattle.symbology.specs.Read.{sameBits, answerFromNet}
+
+-- a square primary symbol of 8 colours
+abbrev symbol : ℕ → ℕ → ℕ → Params
+symbol version wc wr =
+    record {
+      kind = 0;
+      horizontal = version;
+      vertical = version;
+      colours = 8;
+      black = 0;
+      cyan = 3;
+      yellow = 2;
+      wc = wc;
+      wr = wr;
+      mask = 0;
+      turn = 0
+    }
+
+-- the number that a write of the empty message answers where both buffers are empty
+abbrev answered : ℕ → ℕ
+answered version = writeAnswer (symbol version 4 9) [] [] 0 0 .number
+
+-- P10 and P11 count bits from 1
+abbrev fromZero : List (List ℕ) → List (List ℕ)
+fromZero checks = map (λ c. map (λ j. j - 1) c) checks
+
+abbrev checks10 : List (List ℕ)
+checks10 = fromZero ((1 ∷ 2 ∷ []) ∷ (1 ∷ 3 ∷ []) ∷ [])
+
+abbrev checks11 : List (List ℕ)
+checks11 = fromZero ((1 ∷ 2 ∷ []) ∷ (1 ∷ 3 ∷ []) ∷ (2 ∷ 4 ∷ []) ∷ (3 ∷ 4 ∷ []) ∷ [])
+
+abbrev word10 : List ℕ
+word10 = 1 ∷ 0 ∷ 0 ∷ []
+
+abbrev word11 : List ℕ
+word11 = 1 ∷ 0 ∷ 1 ∷ 0 ∷ []
+
+abbrev pub points : List Bool
+points =
+    -- P1
+    eqb (sideSize 1) 21
+    ∷ eqb (sideSize 32) 145
+    ∷ eqb (answered 0) 1
+    ∷ eqb (answered 33) 1
+    -- P2
+    ∷ eqb (innerPatterns 10 10) 12
+    ∷ eqb (patternModules 0 10 10) 152
+    -- P3
+    ∷ eqb (dataModules 0 1 1 24 .0) 349
+    ∷ eqb (asBits (dataModules 0 1 1 24) (bitsPerModule 8) .0) 1047
+    -- P4
+    ∷ eqb (dataModules 0 1 1 35 .0) 338
+    ∷ eqb (asBits (dataModules 0 1 1 35) (bitsPerModule 4) .0) 676
+    -- P5
+    ∷ eqb (sizesOf (symbol 1 4 9) 24 .block) 116
+    ∷ eqb (sizesOf (symbol 1 4 9) 24 .gross) 1044
+    ∷ eqb (sizesOf (symbol 1 4 9) 24 .checks) 464
+    ∷ eqb (sizesOf (symbol 1 4 9) 24 .net) 580
+    ∷ sameBits (stuffing (1047 - 1044)) (0 ∷ 1 ∷ 0 ∷ [])
+    -- P6
+    ∷ eqb (sizesOf (symbol 1 3 9) 24 .checks) 348
+    ∷ eqb (sizesOf (symbol 1 3 9) 24 .net) 696
+    ∷ not (exceeds 695 696)
+    ∷ exceeds 696 696
+    -- P7
+    ∷ eqb (rawPlace 4294967295 1047) 1047
+    ∷ eqb (placeOf 4294967295 1047) 1046
+    ∷ eqb (placeOf 4294967295 1) 0
+    -- P8
+    ∷ eqb (rawPlace 4294967167 1047) 1046
+    ∷ eqb (placeOf 4294967167 1047) 1046
+    -- P9
+    ∷ eqb (placeOf 2147483648 1047) 523
+    ∷ eqb (placeOf 0 1047) 0
+    -- P10
+    ∷ eqb (unmetCount checks10 word10) 2
+    ∷ eqb (length (repairsOf checks10 word10)) 1
+    ∷ sameBits (lastWord checks10 word10) (0 ∷ 0 ∷ 0 ∷ [])
+    ∷ not (stuck checks10 word10)
+    -- P11
+    ∷ eqb (unmetCount checks11 word11) 2
+    ∷ eqb (length (repairsOf checks11 word11)) 0
+    ∷ stuck checks11 word11
+    -- P12
+    ∷ sameBits (streamIn (1 ∷ 0 ∷ 1 ∷ 0 ∷ 0 ∷ [])) (1 ∷ 0 ∷ [])
+    ∷ sameBits (streamIn (1 ∷ 0 ∷ 0 ∷ 0 ∷ 0 ∷ [])) []
+    ∷ eqb (answerFromNet (1 ∷ 0 ∷ 0 ∷ 0 ∷ 0 ∷ []) 0 0 0 .number) 0
+    ∷ eqb (answerFromNet (0 ∷ 0 ∷ 0 ∷ 0 ∷ 0 ∷ []) 0 0 0 .number) 11
+    ∷ []
+
+pub all-points : T (allHold points)
+unfolding allHold lowest tabulate has value bits anyOne legal coreTable coresOf innerPatterns listVerdict entryVerdict isFault faultPlace bitsPerModule patternModules dataModules asBits capacity sizesOf scaled rawPlace placeOf mul div ofInt toUnsigned bitSum unmet unmetCount unmetAt metAt isSuspect suspect turned ends repairs afterTurns repairsOf lastWord stuck modeWidth codeWidth endNumber readCode readCodes decode byteRuns byteStream upToLastOne streamIn stuffing firstOf sizeRows bufferRows frontRows writeRows writeAnswer sameBits answerFromNet
+all-points = tt

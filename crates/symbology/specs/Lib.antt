@@ -1,0 +1,23 @@
+-- The definitions, in the order in which they are read.
+pub mod Ranges
+pub mod Bits
+pub mod Legal
+pub mod Sides
+pub mod Patterns
+pub mod Reserved
+pub mod Capacity
+pub mod Published
+pub mod Generator
+pub mod Place
+pub mod Shuffle
+pub mod Matrix
+pub mod Rule
+pub mod Codeword
+pub mod Characters
+pub mod Modes
+pub mod Stream
+pub mod Net
+pub mod Placement
+pub mod Tests
+pub mod Write
+pub mod Read

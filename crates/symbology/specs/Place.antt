@@ -1,0 +1,23 @@
+-- Document 01, "Bits": the place of a draw with n places left, in single precision (IEEE 754, to nearest, ties to even).
+-- Assumes nothing.
+use Prim.Native.Nat.{ℕ, _-_}
+use mathlib.Core.Bool.{false, cond}
+use lib.Dec.{eqb}
+use lib.IntN.{pos}
+use lib.Ieee.{Float, fin, binary32, mul, div, ofInt, toUnsigned}
+
+-- the draw, its quotient by 4,294,967,296 and the product with n, each rounded once
+unfoldable pub scaled : ℕ → ℕ → Float
+scaled d n = mul binary32 (div binary32 (ofInt binary32 (pos d)) (fin false 1 (pos 32))) (ofInt binary32 (pos n))
+
+-- its whole part
+unfoldable pub rawPlace : ℕ → ℕ → ℕ
+rawPlace d n = toUnsigned 64 (scaled d n)
+
+-- if that is n, the place is n - 1
+abbrev pub capped : ℕ → ℕ → ℕ
+capped raw n = cond (eqb raw n) (n - 1) raw
+
+-- the place of the draw d with n places left, counted from 0
+unfoldable pub placeOf : ℕ → ℕ → ℕ
+placeOf d n = capped (rawPlace d n) n
