@@ -38,7 +38,7 @@ symbol version wc wr =
       wc = wc;
       wr = wr;
       mask = 0;
-      turn = 0
+      turn = 0;
     }
 
 -- the number that a write of the empty message answers where both buffers are empty

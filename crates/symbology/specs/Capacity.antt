@@ -65,5 +65,5 @@ sizesOf p listed =
       gross = grossBits c (p .wr);
       checks = checkCount c (p .wc) (p .wr);
       net = netBits c (p .wc) (p .wr);
-      work = workBytes (checkCount c (p .wc) (p .wr)) (grossBits c (p .wr)) c
+      work = workBytes (checkCount c (p .wc) (p .wr)) (grossBits c (p .wr)) c;
     }
