@@ -27,20 +27,20 @@ abbrev pub squareBits : ℕ → ℕ → Bits
 squareBits version c = asBits (squareModules version c) (bitsPerModule (4 + c % 2 * 4))
 
 right : ℕ → ℕ → Bool
-right k c = eqb (published k c) (squareModules (k + 1) c .0) && eqb (published k (4 + c)) (squareBits (k + 1) c .0)
+right k c = eqb (published k c) (squareModules (k + 1) c .0) && eqb (published k (c + 4)) (squareBits (k + 1) c .0)
 
 all-right : T (allBelow 32 (λ k. allBelow 4 (right k)))
 unfolding right allBelow lowest table1 table1Entries coreTable coresOf innerPatterns bitsPerModule patternModules dataModules asBits
 all-right = tt
 
 module _ (version c : ℕ) (least : 1 ≤ version) (most : version ≤ 32) (inside : c < 4) where
-  right-here : T (eqb (published (version - 1) c) (squareModules version c .0) && eqb (published (version - 1) (4 + c)) (squareBits version c .0))
+  right-here : T (eqb (published (version - 1) c) (squareModules version c .0) && eqb (published (version - 1) (c + 4)) (squareBits version c .0))
   unfolding right
   right-here =
       let next : version - 1 + 1 ≡ version = omega arith in
       let below : version - 1 < 32 = omega arith in
       subst
-      (λ (v : ℕ). T (eqb (published (version - 1) c) (squareModules v c .0) && eqb (published (version - 1) (4 + c)) (squareBits v c .0)))
+      (λ (v : ℕ). T (eqb (published (version - 1) c) (squareModules v c .0) && eqb (published (version - 1) (c + 4)) (squareBits v c .0)))
       next
       (below-at (right (version - 1)) 4 (below-at (λ j. allBelow 4 (right j)) 32 all-right (version - 1) below) c inside)
 
@@ -48,7 +48,7 @@ module _ (version c : ℕ) (least : 1 ≤ version) (most : version ≤ 32) (insi
   modules-right = eqb (published (version - 1) c) (squareModules version c .0)
 
   bits-right : Bool
-  bits-right = eqb (published (version - 1) (4 + c)) (squareBits version c .0)
+  bits-right = eqb (published (version - 1) (c + 4)) (squareBits version c .0)
 
   -- D is the published number of modules
   pub formula-modules : published (version - 1) c ≡ squareModules version c .0
@@ -56,6 +56,6 @@ module _ (version c : ℕ) (least : 1 ≤ version) (most : version ≤ 32) (insi
   formula-modules = eqb→eq (published (version - 1) c) (squareModules version c .0) (both-left modules-right bits-right right-here)
 
   -- C is the published number of bits
-  pub formula-bits : published (version - 1) (4 + c) ≡ squareBits version c .0
+  pub formula-bits : published (version - 1) (c + 4) ≡ squareBits version c .0
   unfolding modules-right bits-right
-  formula-bits = eqb→eq (published (version - 1) (4 + c)) (squareBits version c .0) (both-right modules-right bits-right right-here)
+  formula-bits = eqb→eq (published (version - 1) (c + 4)) (squareBits version c .0) (both-right modules-right bits-right right-here)

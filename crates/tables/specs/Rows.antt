@@ -2,26 +2,21 @@
 -- Assumes nothing.
 use Prim.Native.Nat.{ℕ, _+_, _-_, _*_, _/_, _%_}
 use mathlib.Core.List.{List, [], _++_}
-use lib.ListN.{length, getD, take, drop, replicate}
+use lib.ListN.{length, getD, take, replicate}
 use Rattle.symbology.specs.Capacity.{bitsPerModule, dataModules, asBits}
 use Rattle.symbology.specs.Published.{table1, table1Entries}
 use Rattle.tables.specs.declared.CoreRow.{CoreRow}
-use Rattle.tables.specs.declared.CountRow.{CountRow}
 use Rattle.tables.specs.declared.Counts.{Counts}
 
 -- core coordinates with their number, filled up with zeros to nine
 abbrev pub coreRow : List ℕ → CoreRow
 coreRow cores = record { len = length cores; at = take 9 (cores ++ replicate 9 0) }
 
--- a row of Table 1, its two halves apart
-abbrev pub countRow : List ℕ → CountRow
-countRow row = record { modules = take 4 row; bits = drop 4 row }
-
--- Table 1's numbers for a side-version, by column
+-- Table 1's numbers for a side-version, by column: modules, and four columns on their bits
 unfoldable pub publishedCounts : ℕ → ℕ → Counts
 publishedCounts version c =
-    let row = countRow (getD table1 (version - 1) []) in
-    record { modules = record { 0 = getD (row .modules) c 0 }; bits = record { 0 = getD (row .bits) c 0 } }
+    let row = getD table1 (version - 1) [] in
+    record { modules = record { 0 = getD row c 0 }; bits = record { 0 = getD row (c + 4) 0 } }
 
 -- D and C of a square symbol by the formulas, with the list entries that document 01 says for Table 1's column c: the kind is
 -- 0, 0, 1, 1 and the colours are 4, 8, 4, 8

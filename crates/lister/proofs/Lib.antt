@@ -1,0 +1,5 @@
+pub mod Scanning
+pub mod Text
+pub mod Digits
+pub mod Lengths
+pub mod Listing

@@ -1,0 +1,111 @@
+-- `lister::put_cores` meets its contract: the invariant says which coordinates are left to store. Assumes nothing.
+use Prim.Native.Nat.{_≤_, _<_, _-_}
+use mathlib.Core.Path.{_≡_, _∙_, ap}
+use native.Mathlib.Omega.{arith}
+use borrow.Author.Needs.{needs}
+use lib.ListN.{length, getD, drop, drop-of-length-le}
+use Rattle.symbology.specs.Sides.{coresOf}
+use Rattle.tables.specs.declared.CoreRow.{CoreRow}
+use Rattle.tables.proofs.Cores.{core-count, core-at, core-most}
+use Rattle.lister.specs.Listing.{coresAfter}
+use Rattle.lister.proofs.Text.{Left, left-all, left-none, cores-next, text-kept}
+use Rattle.lister.proofs.Lengths.{cores-length}
+use Rattle.lister.proofs.put_cores.Statement.{statement}
+use Rattle.lister.proofs.put_cores.Tie as tie
+
+abbrev Inv-loop : tie.InvT-loop
+Inv-loop out₀ at version row n next₀ i₀ out next i = (1 ≤ i) × (i ≤ length (coresOf version)) × Left (coresAfter (drop 1 (coresOf version))) (coresAfter (drop i (coresOf version))) next₀ out₀ next out
+
+abbrev μ-loop : tie.MeasureT-loop
+μ-loop out₀ at version row n next₀ i₀ out next i = length (coresOf version) - i
+
+core-row-requires : tie.Need-core-row-requires Inv-loop μ-loop
+core-row-requires c κs = search needs
+
+wide-requires : tie.Need-wide-requires Inv-loop μ-loop
+wide-requires c κs = search needs
+
+-- how many coordinates there are
+cores-are : (c : tie.After-wide Inv-loop μ-loop) → c .wide .result ≡ length (coresOf (c .before .before .before .args .version))
+cores-are c = c .wide .ensures ∙ ap (λ (r : CoreRow). r .len) (c .before .core-row .ensures)
+
+loop-holds : tie.Need-loop-holds Inv-loop μ-loop
+loop-holds c =
+    let v = c .before .before .before .args .version in
+    let n = core-count v (c .before .before .before .pre .1) (c .before .before .before .pre .2) in
+    (omega arith, omega arith, left-all (coresAfter (drop 1 (coresOf v))) (c .before .before .before .args .at) (c .before .before .before .args .out .now))
+
+element-copy-out-wide : tie.Need-element-copy-out-wide Inv-loop μ-loop
+element-copy-out-wide c =
+    let v = c .before .before .before .before .before .args .version in
+    let n = core-count v (c .before .before .before .before .before .pre .1) (c .before .before .before .before .before .pre .2) in
+    omega (arith, cores-are (c .before .before))
+
+wide-requires-2 : tie.Need-wide-requires-2 Inv-loop μ-loop
+wide-requires-2 c κs = search needs
+
+-- the coordinate read is that of the table, and what is stored does not reach far
+core-is : (c : tie.After-wide2 Inv-loop μ-loop)
+    → let l = c .before .before .before .loop in
+      let v = c .before .before .before .before .before .before .before .args .version in
+      (c .wide2 .result ≡ getD (coresOf v) (l .i) 0) × (l .i < length (coresOf v)) × (l .next < 65100)
+core-is c =
+    let l = c .before .before .before .loop in
+    let w = c .before .before .before .before in
+    let s = w .before .before .before in
+    let v = s .args .version in
+    let h : l .i < length (coresOf v) = omega (arith, cores-are w) in
+    (c .wide2 .ensures ∙ ap (λ (r : CoreRow). getD (r .at) (l .i) 0) (w .before .core-row .ensures) ∙ core-at v (s .pre .1) (s .pre .2) (l .i) h,
+    h,
+    omega (arith, l .inv .2 .place, cores-length v (s .pre .1) (s .pre .2)))
+
+put-requires : tie.Need-put-requires Inv-loop μ-loop
+put-requires c κs = omega (arith, core-is (c .before) .2)
+
+put-decimal-requires : tie.Need-put-decimal-requires Inv-loop μ-loop
+put-decimal-requires c κs =
+    let k = core-is (c .before .before .before .before .before) in
+    let m = core-most (c .before .before .before .before .before .before .before .before .before .before .before .before .args .version) (c .before .before .before .before .before .before .before .before .before .before .before .before .pre .1) (c .before .before .before .before .before .before .before .before .before .before .before .before .pre .2) (c .before .before .before .before .before .before .before .before .loop .i) (k .1) in
+    (omega (arith, c .before .before .before .put .ensures .place, k .2), omega (arith, k .0))
+
+add-i : tie.Need-add-i Inv-loop μ-loop
+add-i c = omega (arith, core-is (c .before .before .before .before .before .before .before .before) .1)
+
+loop-less : tie.Need-loop-less Inv-loop μ-loop
+loop-less c = omega (arith, core-is (c .before .before .before .before .before .before .before .before) .1)
+
+loop-again : tie.Need-loop-again Inv-loop μ-loop
+loop-again c =
+    let k = core-is (c .before .before .before .before .before .before .before .before) in
+    let l = c .before .before .before .before .before .before .before .before .before .before .before .loop in
+    (omega arith, omega (arith, k .1), cores-next (coresOf (c .before .before .before .before .before .before .before .before .before .before .before .before .before .before .before .args .version)) (l .i) (c .before .before .before .before .before .before .before .before .wide2 .result) (k .1) (k .0) (l .inv .2) (c .before .before .before .before .before .before .put .ensures) (c .before .before .put-decimal .ensures))
+
+returns : tie.Need-returns Inv-loop μ-loop
+unfolding coresAfter
+returns c =
+    let l = c .before .loop in
+    let v = c .before .before .before .before .before .args .version in
+    let e : length (coresOf v) ≤ l .i = omega (arith, cores-are (c .before .before)) in
+    left-none (ap coresAfter (drop-of-length-le (coresOf v) e)) (l .inv .2)
+
+same-length : tie.Need-same-length Inv-loop μ-loop
+same-length c = text-kept (returns c)
+
+pub put-cores-spec : {M : Type 1} → statement M
+put-cores-spec =
+    tie.close
+    (tie.spec
+    Inv-loop
+    μ-loop
+    core-row-requires
+    wide-requires
+    loop-holds
+    element-copy-out-wide
+    wide-requires-2
+    put-requires
+    put-decimal-requires
+    add-i
+    loop-less
+    loop-again
+    same-length
+    returns)

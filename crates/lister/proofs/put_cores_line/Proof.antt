@@ -1,0 +1,32 @@
+-- `lister::put_cores_line` meets its contract. Assumes nothing.
+use native.Mathlib.Omega.{arith}
+use Rattle.symbology.specs.Sides.{coresOf}
+use Rattle.tables.proofs.Cores.{core-count, core-first}
+use Rattle.lister.proofs.Text.{joined, same-text}
+use Rattle.lister.proofs.Lengths.{cores-length}
+use Rattle.lister.proofs.Listing.{cores-line}
+use borrow.Author.Needs.{needs}
+use Rattle.lister.proofs.put_cores_line.Statement.{statement}
+use Rattle.lister.proofs.put_cores_line.Tie as tie
+
+put-requires : tie.Need-put-requires
+put-requires c κs = search needs
+
+put-cores-requires : tie.Need-put-cores-requires
+put-cores-requires c κs = search needs
+
+put-requires-2 : tie.Need-put-requires-2
+put-requires-2 c κs = omega (arith, c .before .before .before .before .before .before .before .put .ensures .place, c .before .before .before .put-cores .ensures .place, cores-length (c .before .before .before .before .before .before .before .before .before .before .args .version) (c .before .before .before .before .before .before .before .before .before .before .pre .1) (c .before .before .before .before .before .before .before .before .before .before .pre .2))
+
+same-length : tie.Need-same-length
+same-length c = search needs
+
+returns : tie.Need-returns
+returns c =
+    let v = c .before .before .before .before .before .before .before .before .before .before .before .before .before .args .version in
+    let n = core-count v (c .before .before .before .before .before .before .before .before .before .before .before .before .before .pre .1) (c .before .before .before .before .before .before .before .before .before .before .before .before .before .pre .2) in
+    same-text (cores-line (coresOf v) (omega arith) (core-first v (c .before .before .before .before .before .before .before .before .before .before .before .before .before .pre .1) (c .before .before .before .before .before .before .before .before .before .before .before .before .before .pre .2))) (joined (joined (c .before .before .before .before .before .before .before .before .before .before .put .ensures) (c .before .before .before .before .before .before .put-cores .ensures)) (c .before .before .put2 .ensures))
+
+pub put-cores-line-spec : {M : Type 1} → statement M
+put-cores-line-spec =
+    tie.close (tie.spec put-requires put-cores-requires put-requires-2 same-length returns)

@@ -1,0 +1,46 @@
+-- `lister::put_decimal` meets its contract. Assumes nothing.
+use Prim.Native.Nat.{_/_}
+use native.Mathlib.Omega.{arith}
+use Rattle.lister.proofs.Digits.{decimal-length-two, stored-three}
+use borrow.Author.Needs.{needs}
+use Rattle.lister.proofs.put_decimal.Statement.{statement}
+use Rattle.lister.proofs.put_decimal.Tie as tie
+
+put-short-requires : tie.Need-put-short-requires
+put-short-requires c κs = search needs
+
+same-length : tie.Need-same-length
+same-length c = search needs
+
+returns : tie.Need-returns
+returns c = search needs
+
+put-short-requires-2 : tie.Need-put-short-requires-2
+put-short-requires-2 c κs = search needs
+
+digit-requires : tie.Need-digit-requires
+digit-requires c κs = search needs
+
+put-requires : tie.Need-put-requires
+put-requires c κs =
+    let h = decimal-length-two (c .before .before .before .before .before .before .before .before .args .n / 10) (omega arith) in
+    omega (arith, c .before .before .before .before .put-short2 .ensures .place)
+
+same-length-2 : tie.Need-same-length-2
+same-length-2 c = search needs
+
+returns-2 : tie.Need-returns-2
+returns-2 c = stored-three (c .before .before .before .before .before .before .before .before .before .before .before .args .n) (c .before .before .before .before .before .before .before .before .before .if1 .left) (c .before .before .before .before .before .before .before .before .before .before .before .pre .1) (c .before .before .before .digit .ensures) (c .before .before .before .before .before .before .before .put-short2 .ensures) (c .before .before .put .ensures)
+
+pub put-decimal-spec : {M : Type 1} → statement M
+put-decimal-spec =
+    tie.close
+    (tie.spec
+    put-short-requires
+    same-length
+    returns
+    put-short-requires-2
+    digit-requires
+    put-requires
+    same-length-2
+    returns-2)

@@ -1,0 +1,24 @@
+-- `lister::put_number_line` meets its contract. Assumes nothing.
+use native.Mathlib.Omega.{arith}
+use Rattle.lister.specs.Listing.{numberLine}
+use Rattle.lister.proofs.Text.{joined}
+use Rattle.lister.proofs.Digits.{decimal-length}
+use borrow.Author.Needs.{needs}
+use Rattle.lister.proofs.put_number_line.Statement.{statement}
+use Rattle.lister.proofs.put_number_line.Tie as tie
+
+put-decimal-requires : tie.Need-put-decimal-requires
+put-decimal-requires c κs = search needs
+
+put-requires : tie.Need-put-requires
+put-requires c κs = omega (arith, c .before .before .before .put-decimal .ensures .place, decimal-length (c .before .before .before .before .before .before .args .n) (c .before .before .before .before .before .before .pre .1))
+
+same-length : tie.Need-same-length
+same-length c = search needs
+
+returns : tie.Need-returns
+unfolding numberLine
+returns c = joined (c .before .before .before .before .before .before .put-decimal .ensures) (c .before .before .put .ensures)
+
+pub put-number-line-spec : {M : Type 1} → statement M
+put-number-line-spec = tie.close (tie.spec put-decimal-requires put-requires same-length returns)

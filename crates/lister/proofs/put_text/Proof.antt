@@ -1,0 +1,49 @@
+-- `lister::put_text` meets its contract: the invariant says what is left to store. Assumes nothing.
+use Prim.Native.Nat.{_≤_, _<_, _-_}
+use native.Mathlib.Omega.{arith}
+use lib.ListN.{length, drop, drop-of-length-le}
+use Rattle.lister.specs.Listing.{TextAt}
+use Rattle.lister.proofs.Text.{Left, left-all, left-none, text-next, text-kept}
+use Rattle.lister.proofs.put_text.Statement.{statement}
+use Rattle.lister.proofs.put_text.Tie as tie
+
+abbrev Inv-loop : tie.InvT-loop
+Inv-loop out₀ text at₀ out at = (at ≤ length text) × Left text (drop at text) 0 out₀ at out
+
+abbrev μ-loop : tie.MeasureT-loop
+μ-loop out₀ text at₀ out at = length text - at
+
+loop-holds : tie.Need-loop-holds Inv-loop μ-loop
+loop-holds c = (omega arith, left-all (c .before .before .args .text .now) 0 (c .before .before .args .out .now))
+
+shared-slice-read-put : tie.Need-shared-slice-read-put Inv-loop μ-loop
+shared-slice-read-put c = omega arith
+
+put-requires : tie.Need-put-requires Inv-loop μ-loop
+put-requires c κs = omega arith
+
+loop-less : tie.Need-loop-less Inv-loop μ-loop
+loop-less c = omega (arith, c .before .before .put .ensures .place)
+
+loop-again : tie.Need-loop-again Inv-loop μ-loop
+loop-again c = text-next (c .before .before .before .before .before .before .before .before .before .args .text .now) (c .before .before .before .before .before .loop-test .taken) (c .before .before .before .before .before .before .loop .inv .1) (c .before .before .put .ensures)
+
+returns : tie.Need-returns Inv-loop μ-loop
+returns c = left-none (drop-of-length-le (c .before .before .before .before .args .text .now) (c .loop-test .left)) (c .before .loop .inv .1)
+
+same-length : tie.Need-same-length Inv-loop μ-loop
+same-length c = text-kept (returns c)
+
+pub put-text-spec : {M : Type 1} → statement M
+put-text-spec =
+    tie.close
+    (tie.spec
+    Inv-loop
+    μ-loop
+    loop-holds
+    shared-slice-read-put
+    put-requires
+    loop-less
+    loop-again
+    same-length
+    returns)

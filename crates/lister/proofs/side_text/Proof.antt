@@ -1,0 +1,91 @@
+-- `lister::side_text` meets its contract: the refusal, or three lines joined. Assumes nothing.
+use mathlib.Core.Path.{ap}
+use native.Mathlib.Omega.{arith}
+use Rattle.symbology.specs.Sides.{coresOf, innerPatterns}
+use Rattle.lister.specs.Listing.{numberLine, refusedLine}
+use Rattle.lister.proofs.Text.{joined, same-text}
+use Rattle.lister.proofs.Listing.{refused-below, refused-above, three-lines, lines-fit}
+use borrow.Author.Needs.{needs}
+use Rattle.lister.proofs.side_text.Statement.{statement}
+use Rattle.lister.proofs.side_text.Tie as tie
+
+slice-aggregate-put-text : tie.Need-slice-aggregate-put-text
+slice-aggregate-put-text c = search needs
+
+put-text-requires : tie.Need-put-text-requires
+put-text-requires c κs = search needs
+
+same-length : tie.Need-same-length
+same-length c = search needs
+
+returns : tie.Need-returns
+unfolding refusedLine
+returns c = (same-text (refused-below (c .before .before .before .before .before .before .before .args .version) (c .before .before .before .before .before .if1 .taken)) (c .before .before .put-text .ensures), omega (arith, c .before .before .put-text .ensures .place))
+
+slice-aggregate-put-text-2 : tie.Need-slice-aggregate-put-text-2
+slice-aggregate-put-text-2 c = search needs
+
+put-text-requires-2 : tie.Need-put-text-requires-2
+put-text-requires-2 c κs = search needs
+
+same-length-2 : tie.Need-same-length-2
+same-length-2 c = search needs
+
+returns-2 : tie.Need-returns-2
+unfolding refusedLine
+returns-2 c = (same-text (refused-above (c .before .before .before .before .before .before .before .before .args .version) (c .before .before .before .before .before .if2 .taken)) (c .before .before .put-text2 .ensures), omega (arith, c .before .before .put-text2 .ensures .place))
+
+mul-put-number-line : tie.Need-mul-put-number-line
+mul-put-number-line c = search needs
+
+add-put-number-line : tie.Need-add-put-number-line
+add-put-number-line c = search needs
+
+put-number-line-requires : tie.Need-put-number-line-requires
+put-number-line-requires c κs = search needs
+
+put-cores-line-requires : tie.Need-put-cores-line-requires
+put-cores-line-requires c κs =
+    let f = lines-fit (c .before .before .before .before .before .before .before .before .args .version) (c .before .before .before .before .before .before .if1 .left) (c .before .before .before .before .before .if2 .left) in
+    (omega (arith, c .before .before .before .put-number-line .ensures .place), c .before .before .before .before .before .before .if1 .left, c .before .before .before .before .before .if2 .left)
+
+inner-patterns-requires : tie.Need-inner-patterns-requires
+inner-patterns-requires c κs = search needs
+
+put-number-line-requires-2 : tie.Need-put-number-line-requires-2
+put-number-line-requires-2 c κs =
+    let f = lines-fit (c .before .before .before .before .before .before .before .before .before .before .before .before .before .args .version) (c .before .before .before .before .before .before .before .before .before .before .before .if1 .left) (c .before .before .before .before .before .before .before .before .before .before .if2 .left) in
+    (omega (arith, c .before .before .before .before .before .before .before .before .put-number-line .ensures .place, c .before .before .before .before .put-cores-line .ensures .place), c .inner-patterns .ensures .1)
+
+same-length-3 : tie.Need-same-length-3
+same-length-3 c = search needs
+
+returns-3 : tie.Need-returns-3
+returns-3 c =
+    let v = c .before .before .before .before .before .before .before .before .before .before .before .before .before .before .before .before .args .version in
+    let f = lines-fit v (c .before .before .before .before .before .before .before .before .before .before .before .before .before .before .if1 .left) (c .before .before .before .before .before .before .before .before .before .before .before .before .before .if2 .left) in
+    let e = ap numberLine (c .before .before .before .inner-patterns .ensures .0) in
+    let third = same-text e (c .before .before .put-number-line2 .ensures) in
+    (same-text (three-lines v (c .before .before .before .before .before .before .before .before .before .before .before .before .before .before .if1 .left) (c .before .before .before .before .before .before .before .before .before .before .before .before .before .if2 .left)) (joined (joined (c .before .before .before .before .before .before .before .before .before .before .before .put-number-line .ensures) (c .before .before .before .before .before .before .before .put-cores-line .ensures)) third),
+    omega (arith, c .before .before .before .before .before .before .before .before .before .before .before .put-number-line .ensures .place, c .before .before .before .before .before .before .before .put-cores-line .ensures .place, third .place))
+
+pub side-text-spec : {M : Type 1} → statement M
+side-text-spec =
+    tie.close
+    (tie.spec
+    slice-aggregate-put-text
+    put-text-requires
+    same-length
+    returns
+    slice-aggregate-put-text-2
+    put-text-requires-2
+    same-length-2
+    returns-2
+    mul-put-number-line
+    add-put-number-line
+    put-number-line-requires
+    put-cores-line-requires
+    inner-patterns-requires
+    put-number-line-requires-2
+    same-length-3
+    returns-3)

@@ -1,0 +1,46 @@
+-- Document 01, "Points on each side": what the side lister prints for each input.
+-- Assumes nothing.
+use Prim.Native.Nat.{ℕ, _+_}
+use mathlib.Core.Path.{_≡_}
+use mathlib.Core.Bool.{cond}
+use mathlib.Core.List.{List, [], _∷_, _++_}
+use lib.ListN.{length}
+use lib.Seq.{sets}
+use Rattle.symbology.specs.Ranges.{within}
+use Rattle.symbology.specs.Sides.{sideSize, coresOf, innerPatterns}
+use Rattle.lister.specs.Decimal.{decimal, isNumeral, numeralValue}
+
+-- a line of one number
+unfoldable pub numberLine : ℕ → List ℕ
+numberLine n = decimal n ++ (10 ∷ [])
+
+-- core coordinates, a space before each
+unfoldable pub coresAfter : List ℕ → List ℕ
+coresAfter [] = []
+coresAfter (c ∷ cs) = 32 ∷ decimal c ++ coresAfter cs
+
+-- a line of core coordinates, a space between two
+unfoldable pub coresLine : List ℕ → List ℕ
+coresLine [] = 10 ∷ []
+coresLine (c ∷ cs) = decimal c ++ coresAfter cs ++ (10 ∷ [])
+
+-- "refused 1" and a newline
+unfoldable pub refusedLine : List ℕ
+refusedLine = 114 ∷ 101 ∷ 102 ∷ 117 ∷ 115 ∷ 101 ∷ 100 ∷ 32 ∷ 49 ∷ 10 ∷ []
+
+-- side size, core coordinates and inner patterns of a side-version, or the refusal
+unfoldable pub sideText : ℕ → List ℕ
+sideText v = cond (within 1 32 v) (numberLine (sideSize v) ++ coresLine (coresOf v) ++ numberLine (innerPatterns v v)) refusedLine
+
+-- the number that the input is, and 0, which is no side-version, where it is none
+unfoldable pub sideNumber : List ℕ → ℕ
+sideNumber input = cond (isNumeral input) (numeralValue 0 input) 0
+
+-- what the side lister prints
+unfoldable pub listing : List ℕ → List ℕ
+listing input = sideText (sideNumber input)
+
+-- text stored from a place on, as far as the buffer reaches, and the place behind it
+pub record TextAt (text : List ℕ) (at : ℕ) (before after : List ℕ) (next : ℕ) : Type 0 where
+  pub place : next ≡ at + length text
+  pub stored : after ≡ sets before at text

@@ -1,0 +1,228 @@
+// The side lister's work: a decimal number in, the side of that side-version out as text.
+//
+// `list_side` is the whole of it for an input in memory. A program whose input may be of any length
+// calls `scan` for each piece of it, then `number_of` and `side_text`.
+ghost use Prim.Native.Nat.{_+_, _≤_, _<_};
+ghost use mathlib.Core.Path.{_≡_};
+ghost use mathlib.Core.List.{[], _∷_};
+ghost use lib.ListN.{length, drop};
+ghost use Rattle.lister.specs.Decimal.{digitOf, decimal};
+ghost use Rattle.lister.specs.Scanning.{grown, scanned, scannedAll, scanNumber};
+ghost use Rattle.lister.specs.Listing.{TextAt, numberLine, coresAfter, coresLine, sideText, listing};
+ghost use Rattle.symbology.specs.Sides.{coresOf, innerPatterns};
+
+// What the bytes read so far are: none; digits, which write this number; digits and a newline; or
+// no number, whatever follows.
+pub enum Numeral {
+    Start,
+    Digits(usize),
+    Ended(usize),
+    Broken,
+}
+
+// A number with one more digit. Above 32 it is no side-version any more and stays as it is, so that
+// it fits however many digits follow.
+fn grow(n: usize, digit: usize) -> usize
+    requires { ⌜ digit < 10 ⌝ }
+    ensures { λ r. ⌜ r ≡ grown n digit ⌝ }
+{
+    if 32 < n {
+        return n;
+    }
+    10 * n + digit
+}
+
+// The number that a digit writes, and 10 for any other byte.
+fn digit_of(b: u8) -> usize
+    ensures { λ r. ⌜ (r ≡ digitOf b) × (r ≤ 10) ⌝ }
+{
+    if b < 48 {
+        return 10;
+    }
+    if 57 < b {
+        return 10;
+    }
+    (b - 48) as usize
+}
+
+// The state after one more byte.
+fn scan_byte(state: Numeral, b: u8) -> Numeral
+    ensures { λ r. ⌜ r ≡ scanned state b ⌝ }
+{
+    let digit = digit_of(b);
+    match state {
+        Numeral::Start => {
+            if digit == 10 {
+                return Numeral::Broken;
+            }
+            Numeral::Digits(digit)
+        }
+        Numeral::Digits(n) => {
+            if b == 10 {
+                return Numeral::Ended(n);
+            }
+            if digit == 10 {
+                return Numeral::Broken;
+            }
+            Numeral::Digits(grow(n, digit))
+        }
+        Numeral::Ended(_) => Numeral::Broken,
+        Numeral::Broken => Numeral::Broken,
+    }
+}
+
+// The state after a piece of the input.
+pub fn scan(state: Numeral, bytes: &[u8]) -> Numeral
+    ensures { λ r. ⌜ r ≡ scannedAll state (now (bytes .entry)) ⌝ }
+{
+    let mut s = state;
+    let mut i = 0;
+    while i < bytes.len() {
+        s = scan_byte(s, bytes[i]);
+        i += 1;
+    }
+    s
+}
+
+// The number that an input in this state is: 0, which is no side-version, where it is none.
+pub fn number_of(state: Numeral) -> usize
+    ensures { λ r. ⌜ r ≡ scanNumber state ⌝ }
+{
+    match state {
+        Numeral::Start => 0,
+        Numeral::Digits(n) => n,
+        Numeral::Ended(n) => n,
+        Numeral::Broken => 0,
+    }
+}
+
+// ---- text. Each function stores from `at` on what the buffer has room for, and answers the place
+// behind the text.
+
+fn put(out: &mut [u8], at: usize, byte: u8) -> usize
+    requires { ⌜ at < 65536 ⌝ }
+    ensures { λ r. ⌜ TextAt (byte ∷ []) at (now (out .entry)) (now (out .exit)) r ⌝ }
+{
+    if at < out.len() {
+        out[at] = byte;
+    }
+    at + 1
+}
+
+fn digit(d: usize) -> u8
+    requires { ⌜ d < 10 ⌝ }
+    ensures { λ r. ⌜ r ≡ 48 + d ⌝ }
+{
+    48 + d as u8
+}
+
+// A number of one or two digits.
+fn put_short(out: &mut [u8], at: usize, n: usize) -> usize
+    requires { ⌜ (at < 65535) × (n < 100) ⌝ }
+    ensures { λ r. ⌜ TextAt (decimal n) at (now (out .entry)) (now (out .exit)) r ⌝ }
+{
+    if n < 10 {
+        return put(out, at, digit(n));
+    }
+    let next = put(out, at, digit(n / 10));
+    put(out, next, digit(n % 10))
+}
+
+// A number of up to three digits.
+fn put_decimal(out: &mut [u8], at: usize, n: usize) -> usize
+    requires { ⌜ (at < 65534) × (n < 1000) ⌝ }
+    ensures { λ r. ⌜ TextAt (decimal n) at (now (out .entry)) (now (out .exit)) r ⌝ }
+{
+    if n < 100 {
+        return put_short(out, at, n);
+    }
+    let next = put_short(out, at, n / 10);
+    put(out, next, digit(n % 10))
+}
+
+fn put_number_line(out: &mut [u8], at: usize, n: usize) -> usize
+    requires { ⌜ (at < 65533) × (n < 1000) ⌝ }
+    ensures { λ r. ⌜ TextAt (numberLine n) at (now (out .entry)) (now (out .exit)) r ⌝ }
+{
+    let next = put_decimal(out, at, n);
+    put(out, next, 10)
+}
+
+fn wide(b: u8) -> usize
+    ensures { λ r. ⌜ r ≡ b ⌝ }
+{
+    b as usize
+}
+
+// The core coordinates but the first, a space before each.
+fn put_cores(out: &mut [u8], at: usize, version: usize) -> usize
+    requires { ⌜ (at < 65000) × (1 ≤ version) × (version ≤ 32) ⌝ }
+    ensures { λ r. ⌜ TextAt (coresAfter (drop 1 (coresOf version))) at (now (out .entry)) (now (out .exit)) r ⌝ }
+{
+    let row = tables::core_row(version);
+    let n = wide(row.len);
+    let mut next = at;
+    let mut i = 1;
+    while i < n {
+        let core = wide(row.at[i]);
+        let space = put(out, next, 32);
+        next = put_decimal(out, space, core);
+        i += 1;
+    }
+    next
+}
+
+// The line of all core coordinates. Each side has its first at 4.
+fn put_cores_line(out: &mut [u8], at: usize, version: usize) -> usize
+    requires { ⌜ (at < 60000) × (1 ≤ version) × (version ≤ 32) ⌝ }
+    ensures { λ r. ⌜ TextAt (coresLine (coresOf version)) at (now (out .entry)) (now (out .exit)) r ⌝ }
+{
+    let first = put(out, at, 52);
+    let next = put_cores(out, first, version);
+    put(out, next, 10)
+}
+
+fn inner_patterns(version: usize) -> usize
+    requires { ⌜ (1 ≤ version) × (version ≤ 32) ⌝ }
+    ensures { λ r. ⌜ (r ≡ innerPatterns version version) × (r < 1000) ⌝ }
+{
+    let row = tables::core_row(version);
+    let n = wide(row.len);
+    n * n - 4
+}
+
+fn put_text(out: &mut [u8], text: &[u8]) -> usize
+    requires { ⌜ length (now text) < 65536 ⌝ }
+    ensures { λ r. ⌜ TextAt (now (text .entry)) 0 (now (out .entry)) (now (out .exit)) r ⌝ }
+{
+    let mut at = 0;
+    while at < text.len() {
+        at = put(out, at, text[at]);
+    }
+    at
+}
+
+// The three lines of a side-version, or the refusal. 48 bytes hold any of them.
+pub fn side_text(version: usize, out: &mut [u8]) -> usize
+    ensures { λ r. ⌜ TextAt (sideText version) 0 (now (out .entry)) (now (out .exit)) r ⌝ }
+    ensures { λ r. ⌜ r ≤ 48 ⌝ }
+{
+    if version < 1 {
+        return put_text(out, b"refused 1\n");
+    }
+    if 32 < version {
+        return put_text(out, b"refused 1\n");
+    }
+    let second = put_number_line(out, 0, 17 + 4 * version);
+    let third = put_cores_line(out, second, version);
+    put_number_line(out, third, inner_patterns(version))
+}
+
+// What the side lister prints for an input, whatever it is.
+pub fn list_side(input: &[u8], out: &mut [u8]) -> usize
+    ensures { λ r. ⌜ TextAt (listing (now (input .entry))) 0 (now (out .entry)) (now (out .exit)) r ⌝ }
+    ensures { λ r. ⌜ r ≤ 48 ⌝ }
+{
+    let version = number_of(scan(Numeral::Start, input));
+    side_text(version, out)
+}
