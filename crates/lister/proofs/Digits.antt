@@ -32,17 +32,19 @@ decimal-three n l h =
 -- two digits write what is below 100, three what is below 1,000
 pub decimal-length-two : (n : ℕ) → n < 100 → length (decimal n) ≤ 2
 decimal-length-two n h =
-    elim (decLt n 10)
-    [ yes l ↦ omega (arith, ap length (decimal-one n l))
-    | no g ↦ omega (arith, ap length (decimal-two n (omega arith) h)) ]
+    elim (decLt n 10) [
+      | yes l ↦ omega (arith, ap length (decimal-one n l))
+      | no g ↦ omega (arith, ap length (decimal-two n (omega arith) h))
+    ]
 
 pub decimal-length : (n : ℕ) → n < 1000 → length (decimal n) ≤ 3
 decimal-length n h =
-    elim (decLt n 100)
-    [ yes l ↦ omega (arith, decimal-length-two n l)
-    | no g ↦
-      omega
-      (arith, ap length (decimal-three n (omega arith) h), length-append (decimal (n / 10)) ((48 + n % 10) ∷ []), decimal-length-two (n / 10) (omega arith)) ]
+    elim (decLt n 100) [
+      | yes l ↦ omega (arith, decimal-length-two n l)
+      | no g ↦
+          omega
+          (arith, ap length (decimal-three n (omega arith) h), length-append (decimal (n / 10)) ((48 + n % 10) ∷ []), decimal-length-two (n / 10) (omega arith))
+    ]
 
 -- ---- stored digit by digit
 

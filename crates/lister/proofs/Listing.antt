@@ -49,11 +49,12 @@ lines-fit v l h =
 -- two numbers that are the same side-version, or none, have the same text
 side-text-same : (m n : ℕ) → min m 33 ≡ min n 33 → sideText m ≡ sideText n
 side-text-same m n e =
-    elim (decLt 32 m)
-    [ yes h ↦ sym (refused-above m h) ∙ refused-above n (omega arith)
-    | no h ↦
-      let same : m ≡ n = omega arith in
-      ap sideText same ]
+    elim (decLt 32 m) [
+      | yes h ↦ sym (refused-above m h) ∙ refused-above n (omega arith)
+      | no h ↦
+          let same : m ≡ n = omega arith in
+          ap sideText same
+    ]
 
 -- the text by the scan is what the side lister prints
 pub scan-listing : (input : List ℕ) → sideText (scanNumber (scannedAll Start input)) ≡ listing input

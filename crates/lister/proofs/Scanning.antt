@@ -65,29 +65,33 @@ data Byte (b : ℕ) : Type 0 where
 
 byte : (b : ℕ) → Byte b
 byte b =
-    elim (decLt b 48)
-    [ yes l ↦
-      elim (ℕ-discrete b 10)
-      [ yes e ↦ newline (rw (lt-leb 48 b l)) (eq-eqb b 10 e)
-      | no e ↦ other (rw (lt-leb 48 b l)) (rw (lt-leb 48 b l)) (ne-eqb b 10 e) ]
-    | no g ↦
-      let low : 48 ≤ b = omega arith in
-      let apart : b ≡ 10 → ⊥ = λ e. omega arith in
-      elim (decLt 57 b)
-      [ yes h ↦ other (rw (le-leb 48 b low, lt-leb b 57 h)) (rw (le-leb 48 b low, lt-leb b 57 h)) (ne-eqb b 10 apart)
-      | no h ↦
-        let high : b ≤ 57 = omega arith in
-        let small : b - 48 ≡ 10 → ⊥ = λ e. omega arith in
-        digit (rw (le-leb 48 b low, le-leb b 57 high)) (rw (le-leb 48 b low, le-leb b 57 high) (ne-eqb (b - 48) 10 small)) (ne-eqb b 10 apart) ] ]
+    elim (decLt b 48) [
+      | yes l ↦
+          elim (ℕ-discrete b 10) [
+            | yes e ↦ newline (rw (lt-leb 48 b l)) (eq-eqb b 10 e)
+            | no e ↦ other (rw (lt-leb 48 b l)) (rw (lt-leb 48 b l)) (ne-eqb b 10 e)
+          ]
+      | no g ↦
+          let low : 48 ≤ b = omega arith in
+          let apart : b ≡ 10 → ⊥ = λ e. omega arith in
+          elim (decLt 57 b) [
+            | yes h ↦ other (rw (le-leb 48 b low, lt-leb b 57 h)) (rw (le-leb 48 b low, lt-leb b 57 h)) (ne-eqb b 10 apart)
+            | no h ↦
+                let high : b ≤ 57 = omega arith in
+                let small : b - 48 ≡ 10 → ⊥ = λ e. omega arith in
+                digit (rw (le-leb 48 b low, le-leb b 57 high)) (rw (le-leb 48 b low, le-leb b 57 high) (ne-eqb (b - 48) 10 small)) (ne-eqb b 10 apart)
+          ]
+    ]
 
 -- a number that is no side-version stays none, whatever digits follow
 grown-same : (m n d : ℕ) → min m 33 ≡ min n 33 → min (grown m d) 33 ≡ min (10 * n + d) 33
 grown-same m n d e =
-    elim (decLt 32 m)
-    [ yes h ↦ rw (lt-ltb 32 m h) (omega arith)
-    | no h ↦
-      let l : m ≤ 32 = omega arith in
-      rw (le-ltb 32 m l) (omega arith) ]
+    elim (decLt 32 m) [
+      | yes h ↦ rw (lt-ltb 32 m h) (omega arith)
+      | no h ↦
+          let l : m ≤ 32 = omega arith in
+          rw (le-ltb 32 m l) (omega arith)
+    ]
 
 broken-all : (bs : List ℕ) → scannedAll Broken bs ≡ Broken
 unfolding scannedAll scanned

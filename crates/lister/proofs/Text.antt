@@ -20,7 +20,7 @@ pub joined : {a b l m k : List ℕ} {at n r : ℕ} → TextAt a at l m n → Tex
 joined {a} {b} {l} {m} {k} {at} {n} {r} p q =
     record {
       place = omega (arith, p .place, q .place, length-append a b);
-      stored = q .stored ∙ (λ i. sets (p .stored i) (p .place i) b) ∙ sets-append l at a b
+      stored = q .stored ∙ (λ i. sets (p .stored i) (p .place i) b) ∙ sets-append l at a b;
     }
 
 pub same-text : {a b l m : List ℕ} {at n : ℕ} → a ≡ b → TextAt a at l m n → TextAt b at l m n
@@ -40,10 +40,10 @@ left-next {rest = rest} {piece = piece} {more = more} {out = out} {at = at} e t 
     record {
       place = omega (arith, t .place, p .place, length-append piece more, ap length e);
       stored =
-        (λ i. sets (p .stored i) (p .place i) more)
-        ∙ sets-append out at piece more
-        ∙ (λ i. sets out at (sym e i))
-        ∙ t .stored
+          (λ i. sets (p .stored i) (p .place i) more)
+          ∙ sets-append out at piece more
+          ∙ (λ i. sets out at (sym e i))
+          ∙ t .stored;
     }
 
 pub left-none : {whole rest out₀ out : List ℕ} {at₀ at : ℕ} → rest ≡ [] → Left whole rest at₀ out₀ at out → TextAt whole at₀ out₀ out at

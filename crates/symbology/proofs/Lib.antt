@@ -1,5 +1,6 @@
 -- What is proved of the definitions where they stand: laws of their tools, Table 1, document 01's points, worked examples.
 pub mod Ranges
 pub mod Published
+pub mod Read
 pub mod Points
 pub mod Examples

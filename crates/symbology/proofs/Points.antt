@@ -5,15 +5,13 @@ use mathlib.Core.Bool.{Bool, not, _&&_}
 use mathlib.Core.List.{List, [], _∷_, map}
 use lib.ListN.{length}
 use lib.Dec.{T, eqb}
-use lib.Bits.{bitXor}
 use lib.Ieee.{mul, div, ofInt, toUnsigned}
 use Rattle.symbology.specs.declared.Params.{Params}
-use Rattle.symbology.specs.Ranges.{allHold, allBelow, lowest, tabulate, those, has}
+use Rattle.symbology.specs.Ranges.{allHold, lowest, tabulate, has}
 use Rattle.symbology.specs.Bits.{value, bits, anyOne}
 use Rattle.symbology.specs.Legal.{legal}
 use Rattle.symbology.specs.Sides.{sideSize, coreTable, coresOf, innerPatterns}
-use Rattle.symbology.specs.Patterns.{nearest, patternAt, patternColour, covered}
-use Rattle.symbology.specs.Reserved.{listVerdict, entryVerdict, isFault, faultPlace}
+use Rattle.symbology.specs.Reserved.{listVerdict, entryVerdict, listNumber, listPlace}
 use Rattle.symbology.specs.Capacity.{bitsPerModule, patternModules, dataModules, asBits, capacity, sizesOf}
 use Rattle.symbology.specs.Place.{scaled, rawPlace, placeOf}
 use Rattle.symbology.specs.Rule.{bitSum, unmet, unmetCount, unmetAt, metAt, isSuspect, suspect, turned, ends, repairs, afterTurns, repairsOf, lastWord, stuck}
@@ -22,7 +20,7 @@ use Rattle.symbology.specs.Stream.{readCode, readCodes, decode, byteRuns
 use Rattle.symbology.specs.Net.{upToLastOne, streamIn, stuffing, exceeds}
 use Rattle.symbology.specs.Tests.{firstOf, sizeRows, bufferRows, frontRows}
 use Rattle.symbology.specs.Write.{writeRows, writeAnswer}
-use Rattle.symbology.specs.Read.{sameBits, answerFromNet}
+use Rattle.symbology.specs.Read.{sameBits, answerFromNet, readAnswer}
 
 -- a square primary symbol of 8 colours
 abbrev symbol : ℕ → ℕ → ℕ → Params
@@ -41,9 +39,10 @@ symbol version wc wr =
       turn = 0;
     }
 
--- the number that a write of the empty message answers where both buffers are empty
-abbrev answered : ℕ → ℕ
-answered version = writeAnswer (symbol version 4 9) [] [] 0 0 .number
+-- a write of the empty message, and a read, refuse the side-version with 1
+abbrev refused1 : ℕ → Bool
+refused1 version =
+    eqb (writeAnswer (symbol version 4 9) [] [] 0 0 .number) 1 && eqb (readAnswer (symbol version 4 9) [] [] 0 0 .number) 1
 
 -- P10 and P11 count bits from 1
 abbrev fromZero : List (List ℕ) → List (List ℕ)
@@ -66,14 +65,16 @@ points =
     -- P1
     eqb (sideSize 1) 21
     ∷ eqb (sideSize 32) 145
-    ∷ eqb (answered 0) 1
-    ∷ eqb (answered 33) 1
+    ∷ refused1 0
+    ∷ refused1 33
+    ∷ not (refused1 1)
+    ∷ not (refused1 32)
     -- P2
     ∷ eqb (innerPatterns 10 10) 12
     ∷ eqb (patternModules 0 10 10) 152
     -- P3
     ∷ eqb (dataModules 0 1 1 24 .0) 349
-    ∷ eqb (asBits (dataModules 0 1 1 24) (bitsPerModule 8) .0) 1047
+    ∷ eqb (sizesOf (symbol 1 4 9) 24 .capacity) 1047
     -- P4
     ∷ eqb (dataModules 0 1 1 35 .0) 338
     ∷ eqb (asBits (dataModules 0 1 1 35) (bitsPerModule 4) .0) 676
@@ -86,8 +87,8 @@ points =
     -- P6
     ∷ eqb (sizesOf (symbol 1 3 9) 24 .checks) 348
     ∷ eqb (sizesOf (symbol 1 3 9) 24 .net) 696
-    ∷ not (exceeds 695 696)
-    ∷ exceeds 696 696
+    ∷ not (exceeds 695 (sizesOf (symbol 1 3 9) 24 .net))
+    ∷ exceeds 696 (sizesOf (symbol 1 3 9) 24 .net)
     -- P7
     ∷ eqb (rawPlace 4294967295 1047) 1047
     ∷ eqb (placeOf 4294967295 1047) 1046
@@ -115,5 +116,5 @@ points =
     ∷ []
 
 pub all-points : T (allHold points)
-unfolding allHold lowest tabulate has value bits anyOne legal coreTable coresOf innerPatterns listVerdict entryVerdict isFault faultPlace bitsPerModule patternModules dataModules asBits capacity sizesOf scaled rawPlace placeOf mul div ofInt toUnsigned bitSum unmet unmetCount unmetAt metAt isSuspect suspect turned ends repairs afterTurns repairsOf lastWord stuck modeWidth codeWidth endNumber readCode readCodes decode byteRuns byteStream upToLastOne streamIn stuffing firstOf sizeRows bufferRows frontRows writeRows writeAnswer sameBits answerFromNet
+unfolding allHold lowest tabulate has value bits anyOne legal coreTable coresOf innerPatterns listVerdict entryVerdict listNumber listPlace bitsPerModule patternModules dataModules asBits capacity sizesOf scaled rawPlace placeOf mul div ofInt toUnsigned bitSum unmet unmetCount unmetAt metAt isSuspect suspect turned ends repairs afterTurns repairsOf lastWord stuck modeWidth codeWidth endNumber readCode readCodes decode byteRuns byteStream upToLastOne streamIn stuffing firstOf sizeRows bufferRows frontRows writeRows writeAnswer sameBits answerFromNet readAnswer
 all-points = tt

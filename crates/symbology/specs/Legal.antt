@@ -1,6 +1,5 @@
 -- Document 01, "What the library takes in hand": the range of each parameter. Outside it the answer is 1.
 -- Assumes nothing.
-use Prim.Native.Nat.{ℕ}
 use mathlib.Core.Bool.{Bool, not, _||_}
 use mathlib.Core.List.{[], _∷_}
 use lib.Dec.{ltb, eqb}

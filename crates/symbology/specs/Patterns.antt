@@ -15,10 +15,10 @@ use Rattle.symbology.specs.Sides.{coresOf}
 
 -- The first core c with c - 2 ≤ x ≤ c + 2: its number, counted from k, and the offset x + 2 - c. No other core lies so near:
 -- those of a side are at least 10 apart.
-unfoldable pub nearest : ℕ → List ℕ → ℕ → Near
-nearest k [] x = Apart
-nearest k (c ∷ cs) x =
-    let later = nearest (suc k) cs x in
+unfoldable pub nearCore : ℕ → List ℕ → ℕ → Near
+nearCore k [] x = Apart
+nearCore k (c ∷ cs) x =
+    let later = nearCore (suc k) cs x in
     cond (leb c (x + 2) && leb x (c + 2)) (Core k (x + 2 - c)) later
 
 -- ---- the patterns
@@ -79,7 +79,7 @@ meeting s (Core i o) (Core j u) = colourIn (s i j) o u
 -- the pattern colour of the module at column x, row y of a symbol with side-versions h and v
 unfoldable pub patternAt : ℕ → ℕ → ℕ → ℕ → ℕ → ℕ → PatternColour
 patternAt kind turn h v x y =
-    meeting (patternOf kind turn (length (coresOf h)) (length (coresOf v))) (nearest 0 (coresOf h) x) (nearest 0 (coresOf v) y)
+    meeting (patternOf kind turn (length (coresOf h)) (length (coresOf v))) (nearCore 0 (coresOf h) x) (nearCore 0 (coresOf v) y)
 
 -- a pattern covers the module
 unfoldable pub covered : PatternColour → Bool

@@ -1,11 +1,11 @@
 -- Document 01, "Bits": the order of data modules, the masks (002, 4.8.1 and Table 20), filling and sampling a matrix. In cellOf
 -- columns x and rows y count from 1, as in 000; elsewhere columns c and rows r count from 0.
 -- Assumes nothing.
-use Prim.Native.Nat.{ℕ, suc, _+_, _*_, _/_, _%_}
+use Prim.Native.Nat.{ℕ, _+_, _*_, _/_, _%_}
 use mathlib.Core.Bool.{Bool, true, false, cond}
 use mathlib.Core.List.{List, [], _∷_}
 use lib.ListN.{length, getD, take, drop}
-use lib.Dec.{leb, ltb, eqb}
+use lib.Dec.{leb, ltb}
 use lib.Bits.{bitXor}
 use Rattle.symbology.specs.declared.Params.{Params}
 use Rattle.symbology.specs.declared.PatternColour.{PatternColour}

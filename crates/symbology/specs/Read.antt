@@ -1,7 +1,7 @@
 -- The whole read: its answer, and the message buffer at exit (the work buffer is that of a write). It goes in stages, each a
 -- function of what the stage before hands on: 1 to 5, then 7 and 8, then 9, then 10, then 11 to 14.
 -- Assumes nothing.
-use Prim.Native.Nat.{ℕ, zero, suc, _-_}
+use Prim.Native.Nat.{ℕ, _-_}
 use mathlib.Core.Bool.{Bool, true, false, cond, not, _&&_}
 use mathlib.Core.List.{List, [], _∷_, _++_}
 use lib.ListN.{length, take, drop}
@@ -14,7 +14,7 @@ use Rattle.symbology.specs.Shuffle.{unshuffled, interleavingSeed}
 use Rattle.symbology.specs.Matrix.{checksOf}
 use Rattle.symbology.specs.Rule.{unmetCount, repairsOf, lastWord, stuck}
 use Rattle.symbology.specs.Codeword.{messageBits}
-use Rattle.symbology.specs.Stream.{decode, Decoded}
+use Rattle.symbology.specs.Stream.{decode}
 use Rattle.symbology.specs.Net.{streamIn, stuffing}
 use Rattle.symbology.specs.Placement.{sampled, firstBadModule}
 use Rattle.symbology.specs.Tests.{on, Row, firstOf, frontRows, sizesFor}
@@ -99,6 +99,31 @@ answerFromMatrix p l matrix room =
 -- the answer of a read with a work buffer and a message buffer of these lengths
 unfoldable pub readAnswer : Params → List ℕ → List ℕ → ℕ → ℕ → ReadAnswer
 readAnswer p l matrix workRoom room = firstOf (frontRows refused p l (length matrix) workRoom) (answerFromMatrix p l matrix room)
+
+-- ---- document 01's table for a read, all its rows in order
+
+-- 12 and 13 share a row: the number is that of the stream
+unfoldable pub readRows : Params → List ℕ → List ℕ → ℕ → ℕ → List (Row ReadAnswer)
+readRows p l matrix workRoom room =
+    let s = sizesFor p l in
+    let bad = firstBadModule (p .colours) matrix in
+    let bs = receivedBits p l matrix in
+    let cs = checksFor s in
+    let w = take (s .gross) bs in
+    let n = length (repairsOf cs w) in
+    let first = unmetCount cs w in
+    let m = messageOf s (lastWord cs w) in
+    let net = take (s .net) m in
+    let d = decode (streamIn net) in
+    frontRows refused p l (length matrix) workRoom
+    ++ (on (ltb bad (length matrix)) (refused 7 bad)
+    ∷ on (wrongStuffing s bs) (refused 8 0)
+    ∷ on (stuck cs w) (counted 9 n first)
+    ∷ on (anyOne (drop (s .net) m)) (counted 10 n first)
+    ∷ on (not (anyOne net)) (counted 11 n first)
+    ∷ on (not (eqb (d .number) 0)) (counted (d .number) n first)
+    ∷ on (ltb room (length (d .bytes))) (counted 14 n first)
+    ∷ [])
 
 -- ---- the message buffer at exit
 

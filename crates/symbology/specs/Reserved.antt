@@ -2,7 +2,7 @@
 -- "Numbers returned": what makes it bad, and the place of its first fault.
 -- Assumes nothing.
 use Prim.Native.Nat.{ℕ, _+_, _*_, _/_, _%_}
-use mathlib.Core.Bool.{Bool, true, false, cond, not, _&&_, _||_}
+use mathlib.Core.Bool.{Bool, cond, not, _&&_, _||_}
 use mathlib.Core.List.{List}
 use lib.ListN.{length, getD}
 use lib.Dec.{leb, ltb, eqb}
@@ -60,11 +60,11 @@ listVerdict p l =
     (cond (leb (entries l) 1024) (entryVerdict (lowest (badAt p l) (entries l) 0) (entries l)) (Fault 1024))
     (Fault (entries l))
 
--- document 01's test 2 and its place
-unfoldable pub isFault : ListVerdict → Bool
-isFault Sound = false
-isFault (Fault place) = true
+-- document 01's number and place for each case of the enum
+unfoldable pub listNumber : ListVerdict → ℕ
+listNumber Sound = 0
+listNumber (Fault place) = 2
 
-unfoldable pub faultPlace : ListVerdict → ℕ
-faultPlace Sound = 0
-faultPlace (Fault place) = place
+unfoldable pub listPlace : ListVerdict → ℕ
+listPlace Sound = 0
+listPlace (Fault place) = place

@@ -8,7 +8,7 @@ use lib.Dec.{ltb, eqb}
 use Rattle.symbology.specs.declared.Params.{Params}
 use Rattle.symbology.specs.declared.Sizes.{Sizes}
 use Rattle.symbology.specs.Legal.{legal}
-use Rattle.symbology.specs.Reserved.{entries, listVerdict, isFault, faultPlace}
+use Rattle.symbology.specs.Reserved.{entries, listVerdict, listNumber, listPlace}
 use Rattle.symbology.specs.Capacity.{sizesOf}
 
 -- a test, and the answer where it holds
@@ -35,7 +35,7 @@ unfoldable pub sizeRows : {A : Type 0} → (ℕ → ℕ → A) → Params → Li
 sizeRows refusal p l =
     let c = sizesFor p l .capacity in
     on (not (legal p)) (refusal 1 0)
-    ∷ on (isFault (listVerdict p l)) (refusal 2 (faultPlace (listVerdict p l)))
+    ∷ on (eqb (listNumber (listVerdict p l)) 2) (refusal 2 (listPlace (listVerdict p l)))
     ∷ on (ltb c (p .wr) || ltb 4096 c) (refusal 3 0)
     ∷ []
 

@@ -6,7 +6,7 @@ use mathlib.Core.Bool.{Bool, _&&_}
 use mathlib.Core.List.{[], _++_}
 use native.Mathlib.Omega.{arith}
 use native.Mathlib.Nat.{lt-of-lt-of-le}
-use lib.ListN.{length, getD, take, replicate, List·getD-append}
+use lib.ListN.{length, getD, replicate, List·getD-append}
 use lib.Seq.{getD-take}
 use lib.Dec.{T, leb, leb→le, eqb, eqb→eq}
 use Rattle.symbology.specs.Ranges.{within, allBelow}

@@ -1,13 +1,11 @@
 -- Reading a constant table of rows, and the two readings of Table 1 as one.
 -- Assumes nothing.
-use Prim.Native.Nat.{ℕ, zero, suc, _+_, _-_, _≤_, _<_}
+use Prim.Native.Nat.{ℕ, zero, suc, _≤_, _<_}
 use mathlib.Core.Path.{_≡_, refl}
 use mathlib.Core.List.{List, [], _∷_, map}
 use native.Mathlib.Nat.{not-suc-le-zero, le-of-suc-le-suc}
 use lib.ListN.{length, getD}
-use Rattle.symbology.specs.Published.{table1}
 use Rattle.symbology.proofs.Published.{formula-modules, formula-bits}
-use Rattle.tables.specs.declared.Counts.{Counts}
 use Rattle.tables.specs.Rows.{publishedCounts, formulaCounts}
 
 -- inside the list the defaults do not matter

@@ -16,38 +16,134 @@ pub struct CoreRow {
 }
 
 const TABLE_2: [CoreRow; 32] = [
-    CoreRow { len: 2, at: [4, 18, 0, 0, 0, 0, 0, 0, 0] },
-    CoreRow { len: 2, at: [4, 22, 0, 0, 0, 0, 0, 0, 0] },
-    CoreRow { len: 2, at: [4, 26, 0, 0, 0, 0, 0, 0, 0] },
-    CoreRow { len: 2, at: [4, 30, 0, 0, 0, 0, 0, 0, 0] },
-    CoreRow { len: 2, at: [4, 34, 0, 0, 0, 0, 0, 0, 0] },
-    CoreRow { len: 3, at: [4, 17, 38, 0, 0, 0, 0, 0, 0] },
-    CoreRow { len: 3, at: [4, 20, 42, 0, 0, 0, 0, 0, 0] },
-    CoreRow { len: 3, at: [4, 23, 46, 0, 0, 0, 0, 0, 0] },
-    CoreRow { len: 3, at: [4, 26, 50, 0, 0, 0, 0, 0, 0] },
-    CoreRow { len: 4, at: [4, 14, 32, 54, 0, 0, 0, 0, 0] },
-    CoreRow { len: 4, at: [4, 17, 39, 58, 0, 0, 0, 0, 0] },
-    CoreRow { len: 4, at: [4, 20, 46, 62, 0, 0, 0, 0, 0] },
-    CoreRow { len: 4, at: [4, 23, 44, 66, 0, 0, 0, 0, 0] },
-    CoreRow { len: 5, at: [4, 26, 37, 51, 70, 0, 0, 0, 0] },
-    CoreRow { len: 5, at: [4, 14, 36, 58, 74, 0, 0, 0, 0] },
-    CoreRow { len: 5, at: [4, 17, 39, 56, 78, 0, 0, 0, 0] },
-    CoreRow { len: 5, at: [4, 20, 42, 63, 82, 0, 0, 0, 0] },
-    CoreRow { len: 6, at: [4, 23, 38, 54, 70, 86, 0, 0, 0] },
-    CoreRow { len: 6, at: [4, 26, 38, 56, 77, 90, 0, 0, 0] },
-    CoreRow { len: 6, at: [4, 14, 33, 53, 72, 94, 0, 0, 0] },
-    CoreRow { len: 6, at: [4, 17, 38, 59, 79, 98, 0, 0, 0] },
-    CoreRow { len: 7, at: [4, 20, 36, 53, 70, 86, 102, 0, 0] },
-    CoreRow { len: 7, at: [4, 23, 36, 55, 74, 93, 106, 0, 0] },
-    CoreRow { len: 7, at: [4, 26, 36, 58, 79, 100, 110, 0, 0] },
-    CoreRow { len: 7, at: [4, 14, 36, 58, 80, 92, 114, 0, 0] },
-    CoreRow { len: 8, at: [4, 17, 34, 52, 70, 88, 99, 118, 0] },
-    CoreRow { len: 8, at: [4, 20, 37, 54, 72, 89, 106, 122, 0] },
-    CoreRow { len: 8, at: [4, 23, 38, 56, 74, 92, 113, 126, 0] },
-    CoreRow { len: 8, at: [4, 26, 36, 58, 78, 98, 120, 130, 0] },
-    CoreRow { len: 9, at: [4, 14, 32, 49, 67, 84, 102, 112, 134] },
-    CoreRow { len: 9, at: [4, 17, 35, 53, 71, 89, 107, 119, 138] },
-    CoreRow { len: 9, at: [4, 20, 38, 55, 73, 91, 108, 126, 142] },
+    CoreRow {
+        len: 2,
+        at: [4, 18, 0, 0, 0, 0, 0, 0, 0],
+    },
+    CoreRow {
+        len: 2,
+        at: [4, 22, 0, 0, 0, 0, 0, 0, 0],
+    },
+    CoreRow {
+        len: 2,
+        at: [4, 26, 0, 0, 0, 0, 0, 0, 0],
+    },
+    CoreRow {
+        len: 2,
+        at: [4, 30, 0, 0, 0, 0, 0, 0, 0],
+    },
+    CoreRow {
+        len: 2,
+        at: [4, 34, 0, 0, 0, 0, 0, 0, 0],
+    },
+    CoreRow {
+        len: 3,
+        at: [4, 17, 38, 0, 0, 0, 0, 0, 0],
+    },
+    CoreRow {
+        len: 3,
+        at: [4, 20, 42, 0, 0, 0, 0, 0, 0],
+    },
+    CoreRow {
+        len: 3,
+        at: [4, 23, 46, 0, 0, 0, 0, 0, 0],
+    },
+    CoreRow {
+        len: 3,
+        at: [4, 26, 50, 0, 0, 0, 0, 0, 0],
+    },
+    CoreRow {
+        len: 4,
+        at: [4, 14, 32, 54, 0, 0, 0, 0, 0],
+    },
+    CoreRow {
+        len: 4,
+        at: [4, 17, 39, 58, 0, 0, 0, 0, 0],
+    },
+    CoreRow {
+        len: 4,
+        at: [4, 20, 46, 62, 0, 0, 0, 0, 0],
+    },
+    CoreRow {
+        len: 4,
+        at: [4, 23, 44, 66, 0, 0, 0, 0, 0],
+    },
+    CoreRow {
+        len: 5,
+        at: [4, 26, 37, 51, 70, 0, 0, 0, 0],
+    },
+    CoreRow {
+        len: 5,
+        at: [4, 14, 36, 58, 74, 0, 0, 0, 0],
+    },
+    CoreRow {
+        len: 5,
+        at: [4, 17, 39, 56, 78, 0, 0, 0, 0],
+    },
+    CoreRow {
+        len: 5,
+        at: [4, 20, 42, 63, 82, 0, 0, 0, 0],
+    },
+    CoreRow {
+        len: 6,
+        at: [4, 23, 38, 54, 70, 86, 0, 0, 0],
+    },
+    CoreRow {
+        len: 6,
+        at: [4, 26, 38, 56, 77, 90, 0, 0, 0],
+    },
+    CoreRow {
+        len: 6,
+        at: [4, 14, 33, 53, 72, 94, 0, 0, 0],
+    },
+    CoreRow {
+        len: 6,
+        at: [4, 17, 38, 59, 79, 98, 0, 0, 0],
+    },
+    CoreRow {
+        len: 7,
+        at: [4, 20, 36, 53, 70, 86, 102, 0, 0],
+    },
+    CoreRow {
+        len: 7,
+        at: [4, 23, 36, 55, 74, 93, 106, 0, 0],
+    },
+    CoreRow {
+        len: 7,
+        at: [4, 26, 36, 58, 79, 100, 110, 0, 0],
+    },
+    CoreRow {
+        len: 7,
+        at: [4, 14, 36, 58, 80, 92, 114, 0, 0],
+    },
+    CoreRow {
+        len: 8,
+        at: [4, 17, 34, 52, 70, 88, 99, 118, 0],
+    },
+    CoreRow {
+        len: 8,
+        at: [4, 20, 37, 54, 72, 89, 106, 122, 0],
+    },
+    CoreRow {
+        len: 8,
+        at: [4, 23, 38, 56, 74, 92, 113, 126, 0],
+    },
+    CoreRow {
+        len: 8,
+        at: [4, 26, 36, 58, 78, 98, 120, 130, 0],
+    },
+    CoreRow {
+        len: 9,
+        at: [4, 14, 32, 49, 67, 84, 102, 112, 134],
+    },
+    CoreRow {
+        len: 9,
+        at: [4, 17, 35, 53, 71, 89, 107, 119, 138],
+    },
+    CoreRow {
+        len: 9,
+        at: [4, 20, 38, 55, 73, 91, 108, 126, 142],
+    },
 ];
 
 // The core coordinates of a side-version.
@@ -108,5 +204,8 @@ pub fn square_counts(version: usize, column: usize) -> Counts
     ensures { λ r. ⌜ (r ≡ publishedCounts version column) × (r ≡ formulaCounts version column) ⌝ }
 {
     let row = TABLE_1[version - 1];
-    Counts { modules: Modules(row[column]), bits: Bits(row[column + 4]) }
+    Counts {
+        modules: Modules(row[column]),
+        bits: Bits(row[column + 4]),
+    }
 }

@@ -20,7 +20,7 @@ returns : tie.Need-returns
 returns c =
     record {
       place = refl;
-      stored = ⊎-elim (λ w. w .1) (λ w. w .1 ∙ sym (set-out (c .before .args .out .now) (c .before .args .at) (c .before .args .byte) (w .0 .left))) (c .if1 .came)
+      stored = ⊎-elim (λ w. w .1) (λ w. w .1 ∙ sym (set-out (c .before .args .out .now) (c .before .args .at) (c .before .args .byte) (w .0 .left))) (c .if1 .came);
     }
 
 pub put-spec : {M : Type 1} → statement M

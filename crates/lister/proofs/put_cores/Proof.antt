@@ -47,17 +47,18 @@ wide-requires-2 c κs = search needs
 -- the coordinate read is that of the table, and what is stored does not reach far
 core-is : (c : tie.After-wide2 Inv-loop μ-loop)
     → let l = c .before .before .before .loop in
-      let v = c .before .before .before .before .before .before .before .args .version in
-      (c .wide2 .result ≡ getD (coresOf v) (l .i) 0) × (l .i < length (coresOf v)) × (l .next < 65100)
+    let v = c .before .before .before .before .before .before .before .args .version in
+    (c .wide2 .result ≡ getD (coresOf v) (l .i) 0) × (l .i < length (coresOf v)) × (l .next < 65100)
 core-is c =
     let l = c .before .before .before .loop in
     let w = c .before .before .before .before in
     let s = w .before .before .before in
     let v = s .args .version in
-    let h : l .i < length (coresOf v) = omega (arith, cores-are w) in
-    (c .wide2 .ensures ∙ ap (λ (r : CoreRow). getD (r .at) (l .i) 0) (w .before .core-row .ensures) ∙ core-at v (s .pre .1) (s .pre .2) (l .i) h,
-    h,
-    omega (arith, l .inv .2 .place, cores-length v (s .pre .1) (s .pre .2)))
+    let h : l .i < length (coresOf v) = omega (arith, cores-are w) in (
+      c .wide2 .ensures ∙ ap (λ (r : CoreRow). getD (r .at) (l .i) 0) (w .before .core-row .ensures) ∙ core-at v (s .pre .1) (s .pre .2) (l .i) h,
+      h,
+      omega (arith, l .inv .2 .place, cores-length v (s .pre .1) (s .pre .2)),
+    )
 
 put-requires : tie.Need-put-requires Inv-loop μ-loop
 put-requires c κs = omega (arith, core-is (c .before) .2)

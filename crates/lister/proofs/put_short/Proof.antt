@@ -1,12 +1,5 @@
 -- `lister::put_short` meets its contract. Assumes nothing.
-use native.Mathlib.Omega.{arith}
 use Rattle.lister.proofs.Digits.{stored-one, stored-two}
-use Prim.Native.Nat.{_+_, _/_, _%_, _≤_}
-use mathlib.Core.Path.{_≡_, sym, _∙_}
-use mathlib.Core.List.{List, [], _∷_}
-use Prim.Native.Nat.{ℕ}
-use Rattle.lister.proofs.Text.{joined, same-text}
-use Rattle.lister.proofs.Digits.{decimal-one, decimal-two}
 use borrow.Author.Needs.{needs}
 use Rattle.lister.proofs.put_short.Statement.{statement}
 use Rattle.lister.proofs.put_short.Tie as tie

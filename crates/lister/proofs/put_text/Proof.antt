@@ -1,8 +1,7 @@
 -- `lister::put_text` meets its contract: the invariant says what is left to store. Assumes nothing.
-use Prim.Native.Nat.{_≤_, _<_, _-_}
+use Prim.Native.Nat.{_≤_, _-_}
 use native.Mathlib.Omega.{arith}
 use lib.ListN.{length, drop, drop-of-length-le}
-use Rattle.lister.specs.Listing.{TextAt}
 use Rattle.lister.proofs.Text.{Left, left-all, left-none, text-next, text-kept}
 use Rattle.lister.proofs.put_text.Statement.{statement}
 use Rattle.lister.proofs.put_text.Tie as tie

@@ -1,7 +1,6 @@
 -- `lister::side_text` meets its contract: the refusal, or three lines joined. Assumes nothing.
 use mathlib.Core.Path.{ap}
 use native.Mathlib.Omega.{arith}
-use Rattle.symbology.specs.Sides.{coresOf, innerPatterns}
 use Rattle.lister.specs.Listing.{numberLine, refusedLine}
 use Rattle.lister.proofs.Text.{joined, same-text}
 use Rattle.lister.proofs.Listing.{refused-below, refused-above, three-lines, lines-fit}
@@ -65,9 +64,10 @@ returns-3 c =
     let v = c .before .before .before .before .before .before .before .before .before .before .before .before .before .before .before .before .args .version in
     let f = lines-fit v (c .before .before .before .before .before .before .before .before .before .before .before .before .before .before .if1 .left) (c .before .before .before .before .before .before .before .before .before .before .before .before .before .if2 .left) in
     let e = ap numberLine (c .before .before .before .inner-patterns .ensures .0) in
-    let third = same-text e (c .before .before .put-number-line2 .ensures) in
-    (same-text (three-lines v (c .before .before .before .before .before .before .before .before .before .before .before .before .before .before .if1 .left) (c .before .before .before .before .before .before .before .before .before .before .before .before .before .if2 .left)) (joined (joined (c .before .before .before .before .before .before .before .before .before .before .before .put-number-line .ensures) (c .before .before .before .before .before .before .before .put-cores-line .ensures)) third),
-    omega (arith, c .before .before .before .before .before .before .before .before .before .before .before .put-number-line .ensures .place, c .before .before .before .before .before .before .before .put-cores-line .ensures .place, third .place))
+    let third = same-text e (c .before .before .put-number-line2 .ensures) in (
+      same-text (three-lines v (c .before .before .before .before .before .before .before .before .before .before .before .before .before .before .if1 .left) (c .before .before .before .before .before .before .before .before .before .before .before .before .before .if2 .left)) (joined (joined (c .before .before .before .before .before .before .before .before .before .before .before .put-number-line .ensures) (c .before .before .before .before .before .before .before .put-cores-line .ensures)) third),
+      omega (arith, c .before .before .before .before .before .before .before .before .before .before .before .put-number-line .ensures .place, c .before .before .before .before .before .before .before .put-cores-line .ensures .place, third .place),
+    )
 
 pub side-text-spec : {M : Type 1} → statement M
 side-text-spec =

@@ -1,7 +1,6 @@
 -- `side_lister::input_number` is safe and ends: the count of turns rises to its bound. Assumes nothing.
-use Prim.Native.Nat.{_≤_, _-_}
+use Prim.Native.Nat.{_-_}
 use mathlib.Core.Path.{_≡_}
-use native.Mathlib.Omega.{arith}
 use borrow.Author.Needs.{needs}
 use lib.ListN.{length}
 use Rattle.side_lister.proofs.input_number.Statement.{statement}
