@@ -71,3 +71,10 @@ unfolding coresAfter
 cores-next cs i core h e t p q =
     let piece : coresAfter (drop i cs) ≡ ((32 ∷ []) ++ decimal core) ++ coresAfter (drop (i + 1) cs) = rw (add-one i, drop-cons cs i 0 h, e) in
     left-next piece t (joined p q)
+
+-- what the public contracts say of a text: its length and the buffer
+abbrev pub Stored : List ℕ → List ℕ → List ℕ → ℕ → Type 0
+Stored text before after n = ((n ≡ length text) × (n ≤ 48)) × (after ≡ sets before 0 text)
+
+pub from-start : {text before after : List ℕ} {n : ℕ} → TextAt text 0 before after n → length text ≤ 48 → Stored text before after n
+from-start t h = ((omega (arith, t .place), omega (arith, t .place)), t .stored)

@@ -19,6 +19,7 @@ decimal n = digitsUpTo 20 n
 
 -- ---- read
 
+-- an ASCII digit
 abbrev pub isDigit : ℕ → Bool
 isDigit b = within 48 57 b
 

@@ -19,6 +19,7 @@ scanned (Digits n) b = cond (eqb b 10) (Ended n) (cond (eqb (digitOf b) 10) Brok
 scanned (Ended n) b = Broken
 scanned Broken b = Broken
 
+-- the bytes of a list, one after the other
 unfoldable pub scannedAll : Numeral → List ℕ → Numeral
 scannedAll s [] = s
 scannedAll s (b ∷ bs) = scannedAll (scanned s b) bs

@@ -6,6 +6,7 @@ ghost use Prim.Native.Nat.{_+_, _≤_, _<_};
 ghost use mathlib.Core.Path.{_≡_};
 ghost use mathlib.Core.List.{[], _∷_};
 ghost use lib.ListN.{length, drop};
+ghost use lib.Seq.{sets};
 ghost use Rattle.lister.specs.Decimal.{digitOf, decimal};
 ghost use Rattle.lister.specs.Scanning.{grown, scanned, scannedAll, scanNumber};
 ghost use Rattle.lister.specs.Listing.{TextAt, numberLine, coresAfter, coresLine, sideText, listing};
@@ -96,8 +97,8 @@ pub fn number_of(state: Numeral) -> usize
     }
 }
 
-// ---- text. Each function stores from `at` on what the buffer has room for, and answers the place
-// behind the text.
+// ---- text. Each function stores from `at` on, as far as the buffer reaches, and answers the place
+// behind the text. A buffer that is too short holds the front of it.
 
 fn put(out: &mut [u8], at: usize, byte: u8) -> usize
     requires { ⌜ at < 65536 ⌝ }
@@ -202,10 +203,11 @@ fn put_text(out: &mut [u8], text: &[u8]) -> usize
     at
 }
 
-// The three lines of a side-version, or the refusal. 48 bytes hold any of them.
+// The three lines of a side-version, or the refusal, and their length. 48 bytes hold any of them; a
+// shorter buffer holds the front.
 pub fn side_text(version: usize, out: &mut [u8]) -> usize
-    ensures { λ r. ⌜ TextAt (sideText version) 0 (now (out .entry)) (now (out .exit)) r ⌝ }
-    ensures { λ r. ⌜ r ≤ 48 ⌝ }
+    ensures { λ r. ⌜ (r ≡ length (sideText version)) × (r ≤ 48) ⌝ }
+    ensures { λ _. ⌜ now (out .exit) ≡ sets (now (out .entry)) 0 (sideText version) ⌝ }
 {
     if version < 1 {
         return put_text(out, b"refused 1\n");
@@ -218,10 +220,10 @@ pub fn side_text(version: usize, out: &mut [u8]) -> usize
     put_number_line(out, third, inner_patterns(version))
 }
 
-// What the side lister prints for an input, whatever it is.
+// What the side lister prints for an input, whatever it is, and its length.
 pub fn list_side(input: &[u8], out: &mut [u8]) -> usize
-    ensures { λ r. ⌜ TextAt (listing (now (input .entry))) 0 (now (out .entry)) (now (out .exit)) r ⌝ }
-    ensures { λ r. ⌜ r ≤ 48 ⌝ }
+    ensures { λ r. ⌜ (r ≡ length (listing (now (input .entry)))) × (r ≤ 48) ⌝ }
+    ensures { λ _. ⌜ now (out .exit) ≡ sets (now (out .entry)) 0 (listing (now (input .entry))) ⌝ }
 {
     let version = number_of(scan(Numeral::Start, input));
     side_text(version, out)

@@ -30,16 +30,19 @@ asBits m depth = record { 0 = m .0 * depth }
 unfoldable pub capacity : Params → ℕ → Bits
 capacity p listed = asBits (dataModules (p .kind) (p .horizontal) (p .vertical) listed) (bitsPerModule (p .colours))
 
--- t = C div wr, Pg = t × wr, K = t × wc, Pn = t × (wr − wc)
+-- t = C div wr, the rows of A in a block
 abbrev pub blockRows : ℕ → ℕ → ℕ
 blockRows c wr = c / wr
 
+-- Pg = t × wr, the bits of a codeword
 abbrev pub grossBits : ℕ → ℕ → ℕ
 grossBits c wr = blockRows c wr * wr
 
+-- K = t × wc, the rows of A
 abbrev pub checkCount : ℕ → ℕ → ℕ → ℕ
 checkCount c wc wr = blockRows c wr * wc
 
+-- Pn = t × (wr − wc)
 abbrev pub netBits : ℕ → ℕ → ℕ → ℕ
 netBits c wc wr = blockRows c wr * (wr - wc)
 

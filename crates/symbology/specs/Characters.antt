@@ -49,6 +49,7 @@ utf8 c =
     cond (ltb c 0x80) (c ∷ [])
     (cond (ltb c 0x800) ((0xC0 + c / 64) ∷ (0x80 + c % 64) ∷ []) ((0xE0 + c / 4096) ∷ (0x80 + c / 64 % 64) ∷ (0x80 + c % 64) ∷ []))
 
+-- the bytes of several characters
 unfoldable pub utf8Bytes : List ℕ → List ℕ
 utf8Bytes [] = []
 utf8Bytes (c ∷ cs) = utf8 c ++ utf8Bytes cs

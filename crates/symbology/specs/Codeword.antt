@@ -23,10 +23,11 @@ checkColumns k n a (suc m) =
     let j = n - suc m in
     cond (isSum k (map (λ c i. a i c) taken) (λ i. a i j)) taken (j ∷ taken)
 
+-- column j is a check column
 unfoldable pub isCheckColumn : ℕ → ℕ → BitMatrix → ℕ → Bool
 isCheckColumn k n a j = has j (checkColumns k n a n)
 
--- the other columns, ascending
+-- the message columns: the others, ascending
 unfoldable pub messageColumns : ℕ → ℕ → BitMatrix → List ℕ
 messageColumns k n a = those n (λ j. not (isCheckColumn k n a j))
 
@@ -49,7 +50,10 @@ firstWord f (w ∷ ws) =
 
 -- the codeword: the only word with the message's bits that meets every row of the matrix
 unfoldable pub codeword : ℕ → ℕ → BitMatrix → List ℕ → List ℕ
-codeword k n a m = firstWord (λ w. carries (messageColumns k n a) m w && eqb (unmetCount (checksOf k n a) w) 0) (words n)
+codeword k n a m =
+    let columns = messageColumns k n a in
+    let checks = checksOf k n a in
+    firstWord (λ w. carries columns m w && eqb (unmetCount checks w) 0) (words n)
 
 -- the bits of a word in the message columns
 unfoldable pub messageBits : ℕ → ℕ → BitMatrix → List ℕ → List ℕ

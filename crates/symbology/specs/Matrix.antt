@@ -26,7 +26,9 @@ columnOrder gross (suc k) = shuffled 0 (stateAfter (k * gross) matrixSeed) (colu
 -- Steps 1 and 2. Row r of A0 has its wr ones in the columns r × wr and on, so column c has its 1 in row c div wr. Row i of A is
 -- row i mod t of block i div t + 1.
 unfoldable pub matrixA : ℕ → ℕ → BitMatrix
-matrixA t wr i j = eqb (getD (columnOrder (t * wr) (i / t + 1)) j 0 / wr) (i % t)
+matrixA t wr i =
+    let order = columnOrder (t * wr) (i / t + 1) in
+    λ j. eqb (getD order j 0 / wr) (i % t)
 
 -- the check of a row: the columns of its ones, ascending
 unfoldable pub checkOf : ℕ → BitMatrix → ℕ → List ℕ

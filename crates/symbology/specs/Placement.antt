@@ -34,6 +34,7 @@ cellOf p l x y =
     let k = firstEntry l (entries l) x y in
     cond (ltb k (entries l)) (Fixed (entryColour l k)) (patternCell p (patternColour p x y))
 
+-- the module is a data module
 unfoldable pub isData : Cell → Bool
 isData Data = true
 isData (Fixed v) = false
@@ -71,16 +72,18 @@ maskAt mask colours x y = getD (maskGenerators x y) mask 0 % colours
 
 -- ---- filling and sampling
 
--- the colour index of the module (c, r) of a symbol whose data modules hold the bits: the first bit of a module is its highest
+-- the colour index of the data module (c, r), masked: the first bit of a module is its highest
 unfoldable pub dataModule : Params → List ℕ → List ℕ → ℕ → ℕ → ℕ
 dataModule p l bs c r =
     let depth = bitsPerModule (p .colours) in
     bitXor (value (take depth (drop (depth * rank p l c r) bs))) (maskAt (p .mask) (p .colours) c r)
 
+-- the mask changes data modules only
 unfoldable pub onCell : Cell → ℕ → ℕ
 onCell Data v = v
 onCell (Fixed f) v = f
 
+-- the colour index of the module (c, r) of a symbol whose data modules hold the bits
 unfoldable pub moduleAt : Params → List ℕ → List ℕ → ℕ → ℕ → ℕ
 moduleAt p l bs c r = onCell (cellAt p l c r) (dataModule p l bs c r)
 
@@ -88,11 +91,12 @@ moduleAt p l bs c r = onCell (cellAt p l c r) (dataModule p l bs c r)
 unfoldable pub filled : Params → List ℕ → List ℕ → List ℕ
 filled p l bs = tabulate (rows p * columns p) (λ i. moduleAt p l bs (i % columns p) (i / columns p))
 
--- the bits of the module (c, r) of a matrix, the mask undone; none where it is no data module
+-- what is no data module gives no bits
 unfoldable pub cellBits : Cell → List ℕ → List ℕ
 cellBits Data bs = bs
 cellBits (Fixed v) bs = []
 
+-- the bits of the module (c, r) of a matrix, the mask undone
 unfoldable pub bitsAt : Params → List ℕ → List ℕ → ℕ → ℕ → List ℕ
 bitsAt p l matrix c r =
     cellBits (cellAt p l c r)

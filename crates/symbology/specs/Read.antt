@@ -40,6 +40,10 @@ done n repairs unmet = record { number = 0; place = 0; length = n; repairs = rep
 unfoldable pub receivedBits : Params → List ℕ → List ℕ → List ℕ
 receivedBits p l matrix = unshuffled 0 interleavingSeed (sampled p l matrix)
 
+-- the received word (document 01's term): the first Pg of them
+unfoldable pub receivedWord : Params → List ℕ → List ℕ → List ℕ
+receivedWord p l matrix = take (sizesFor p l .gross) (receivedBits p l matrix)
+
 -- two lists of bits are equal
 unfoldable pub sameBits : List ℕ → List ℕ → Bool
 sameBits [] [] = true
@@ -78,7 +82,7 @@ answerFromAccepted s w repairs unmet room =
     let m = messageOf s w in
     firstOf (on (anyOne (drop (s .net) m)) (counted 10 repairs unmet) ∷ []) (answerFromNet (take (s .net) m) repairs unmet room)
 
--- from the received word (document 01's term): 9, stuck; else the read goes on from the word the rule ends with
+-- from the received word: 9, stuck; else the read goes on from the word the rule ends with
 unfoldable pub answerFromReceived : Sizes → List ℕ → ℕ → ReadAnswer
 answerFromReceived s w room =
     let cs = checksFor s in
@@ -130,10 +134,6 @@ readRows p l matrix workRoom room =
 -- the bytes that an accepted word gives
 unfoldable pub messageInAccepted : Sizes → List ℕ → List ℕ
 messageInAccepted s w = decode (streamIn (take (s .net) (messageOf s w))) .bytes
-
--- the received word of a sampled matrix
-unfoldable pub receivedWord : Params → List ℕ → List ℕ → List ℕ
-receivedWord p l matrix = take (sizesFor p l .gross) (receivedBits p l matrix)
 
 -- the message of a sampled matrix: the bytes of the word that the rule ends with
 unfoldable pub messageIn : Params → List ℕ → List ℕ → List ℕ

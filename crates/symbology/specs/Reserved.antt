@@ -17,13 +17,15 @@ use Rattle.symbology.specs.Patterns.{patternColour, covered}
 abbrev pub entries : List ℕ → ℕ
 entries l = length l / 3
 
--- column, row and colour of entry k, counted from 0
+-- the column of entry k, entries counted from 0
 abbrev pub entryColumn : List ℕ → ℕ → ℕ
 entryColumn l k = getD l (3 * k) 0
 
+-- its row
 abbrev pub entryRow : List ℕ → ℕ → ℕ
 entryRow l k = getD l (3 * k + 1) 0
 
+-- its colour index
 abbrev pub entryColour : List ℕ → ℕ → ℕ
 entryColour l k = getD l (3 * k + 2) 0
 
@@ -60,11 +62,12 @@ listVerdict p l =
     (cond (leb (entries l) 1024) (entryVerdict (lowest (badAt p l) (entries l) 0) (entries l)) (Fault 1024))
     (Fault (entries l))
 
--- document 01's number and place for each case of the enum
+-- document 01's number for each case of the enum
 unfoldable pub listNumber : ListVerdict → ℕ
 listNumber Sound = 0
 listNumber (Fault place) = 2
 
+-- document 01's place for each case
 unfoldable pub listPlace : ListVerdict → ℕ
 listPlace Sound = 0
 listPlace (Fault place) = place

@@ -21,11 +21,12 @@ unfoldable pub unmetCount : List (List ℕ) → List ℕ → ℕ
 unmetCount [] w = 0
 unmetCount (c ∷ cs) w = unmet c w + unmetCount cs w
 
--- how many unmet checks bit j stands in, and how many met ones
+-- how many unmet checks bit j stands in
 unfoldable pub unmetAt : List (List ℕ) → List ℕ → ℕ → ℕ
 unmetAt [] w j = 0
 unmetAt (c ∷ cs) w j = cond (has j c) (unmet c w) 0 + unmetAt cs w j
 
+-- how many met checks bit j stands in
 unfoldable pub metAt : List (List ℕ) → List ℕ → ℕ → ℕ
 metAt [] w j = 0
 metAt (c ∷ cs) w j = cond (has j c) (1 - unmet c w) 0 + metAt cs w j
@@ -59,10 +60,11 @@ unfoldable pub afterTurns : List ℕ → List ℕ → List ℕ
 afterTurns w [] = w
 afterTurns w (j ∷ js) = afterTurns (turned w j) js
 
--- the rule run from a received word to its end
+-- the repairs of the rule run from a received word to its end
 unfoldable pub repairsOf : List (List ℕ) → List ℕ → List ℕ
 repairsOf cs w = repairs cs (unmetCount cs w) w
 
+-- the word that it ends with
 unfoldable pub lastWord : List (List ℕ) → List ℕ → List ℕ
 lastWord cs w = afterTurns w (repairsOf cs w)
 

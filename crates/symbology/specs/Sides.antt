@@ -9,9 +9,11 @@ use Rattle.symbology.specs.declared.Params.{Params}
 abbrev pub sideSize : ℕ → ℕ
 sideSize v = 17 + 4 * v
 
+-- the columns of a symbol
 abbrev pub columns : Params → ℕ
 columns p = sideSize (p .horizontal)
 
+-- the rows of a symbol
 abbrev pub rows : Params → ℕ
 rows p = sideSize (p .vertical)
 

@@ -16,6 +16,7 @@ pub record Row (A : Type 0) : Type 0 where
   pub test : Bool
   pub gives : A
 
+-- a row
 abbrev pub on : {A : Type 0} → Bool → A → Row A
 on t a = record { test = t; gives = a }
 

@@ -1,8 +1,10 @@
--- `lister::list_side` meets its contract. Assumes nothing.
-use mathlib.Core.Path.{_∙_, ap}
+-- `lister::list_side` meets its contract: the scanned number has the text that the input has. Assumes nothing.
+use Prim.Native.Nat.{ℕ}
+use mathlib.Core.Path.{_∙_, ap, subst}
+use mathlib.Core.List.{List}
 use Rattle.lister.specs.Scanning.{scanNumber}
 use Rattle.lister.specs.Listing.{sideText}
-use Rattle.lister.proofs.Text.{same-text}
+use Rattle.lister.proofs.Text.{Stored}
 use Rattle.lister.proofs.Listing.{scan-listing}
 use borrow.Author.Needs.{needs}
 use Rattle.lister.proofs.list_side.Statement.{statement}
@@ -22,8 +24,10 @@ same-length c = search needs
 
 returns : tie.Need-returns
 returns c =
+    let t = c .before .before .side-text in
     let number = c .before .before .before .before .number-of .ensures ∙ ap scanNumber (c .before .before .before .before .before .scan .ensures) in
-    (same-text (ap sideText number ∙ scan-listing (c .before .before .before .before .before .before .before .before .args .input .now)) (c .before .before .side-text .ensures .0), c .before .before .side-text .ensures .1)
+    let same = ap sideText number ∙ scan-listing (c .before .before .before .before .before .before .before .before .args .input .now) in
+    subst (λ (text : List ℕ). Stored text (c .before .before .before .before .before .before .before .before .args .out .now) (t .last .1 .0) (t .result)) same (t .ensures)
 
 pub list-side-spec : {M : Type 1} → statement M
 list-side-spec =

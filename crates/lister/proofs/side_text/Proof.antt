@@ -1,8 +1,10 @@
 -- `lister::side_text` meets its contract: the refusal, or three lines joined. Assumes nothing.
 use mathlib.Core.Path.{ap}
 use native.Mathlib.Omega.{arith}
+use lib.ListN.{length}
 use Rattle.lister.specs.Listing.{numberLine, refusedLine}
-use Rattle.lister.proofs.Text.{joined, same-text}
+use Rattle.lister.proofs.Text.{joined, same-text, from-start}
+use Rattle.lister.proofs.Lengths.{text-length}
 use Rattle.lister.proofs.Listing.{refused-below, refused-above, three-lines, lines-fit}
 use borrow.Author.Needs.{needs}
 use Rattle.lister.proofs.side_text.Statement.{statement}
@@ -19,7 +21,9 @@ same-length c = search needs
 
 returns : tie.Need-returns
 unfolding refusedLine
-returns c = (same-text (refused-below (c .before .before .before .before .before .before .before .args .version) (c .before .before .before .before .before .if1 .taken)) (c .before .before .put-text .ensures), omega (arith, c .before .before .put-text .ensures .place))
+returns c =
+    let e = refused-below (c .before .before .before .before .before .before .before .args .version) (c .before .before .before .before .before .if1 .taken) in
+    from-start (same-text e (c .before .before .put-text .ensures)) (omega (arith, ap length e))
 
 slice-aggregate-put-text-2 : tie.Need-slice-aggregate-put-text-2
 slice-aggregate-put-text-2 c = search needs
@@ -32,7 +36,9 @@ same-length-2 c = search needs
 
 returns-2 : tie.Need-returns-2
 unfolding refusedLine
-returns-2 c = (same-text (refused-above (c .before .before .before .before .before .before .before .before .args .version) (c .before .before .before .before .before .if2 .taken)) (c .before .before .put-text2 .ensures), omega (arith, c .before .before .put-text2 .ensures .place))
+returns-2 c =
+    let e = refused-above (c .before .before .before .before .before .before .before .before .args .version) (c .before .before .before .before .before .if2 .taken) in
+    from-start (same-text e (c .before .before .put-text2 .ensures)) (omega (arith, ap length e))
 
 mul-put-number-line : tie.Need-mul-put-number-line
 mul-put-number-line c = search needs
@@ -62,12 +68,9 @@ same-length-3 c = search needs
 returns-3 : tie.Need-returns-3
 returns-3 c =
     let v = c .before .before .before .before .before .before .before .before .before .before .before .before .before .before .before .before .args .version in
-    let f = lines-fit v (c .before .before .before .before .before .before .before .before .before .before .before .before .before .before .if1 .left) (c .before .before .before .before .before .before .before .before .before .before .before .before .before .if2 .left) in
-    let e = ap numberLine (c .before .before .before .inner-patterns .ensures .0) in
-    let third = same-text e (c .before .before .put-number-line2 .ensures) in (
-      same-text (three-lines v (c .before .before .before .before .before .before .before .before .before .before .before .before .before .before .if1 .left) (c .before .before .before .before .before .before .before .before .before .before .before .before .before .if2 .left)) (joined (joined (c .before .before .before .before .before .before .before .before .before .before .before .put-number-line .ensures) (c .before .before .before .before .before .before .before .put-cores-line .ensures)) third),
-      omega (arith, c .before .before .before .before .before .before .before .before .before .before .before .put-number-line .ensures .place, c .before .before .before .before .before .before .before .put-cores-line .ensures .place, third .place),
-    )
+    let third = same-text (ap numberLine (c .before .before .before .inner-patterns .ensures .0)) (c .before .before .put-number-line2 .ensures) in
+    let lines = joined (joined (c .before .before .before .before .before .before .before .before .before .before .before .put-number-line .ensures) (c .before .before .before .before .before .before .before .put-cores-line .ensures)) third in
+    from-start (same-text (three-lines v (c .before .before .before .before .before .before .before .before .before .before .before .before .before .before .if1 .left) (c .before .before .before .before .before .before .before .before .before .before .before .before .before .if2 .left)) lines) (text-length v (c .before .before .before .before .before .before .before .before .before .before .before .before .before .before .if1 .left) (c .before .before .before .before .before .before .before .before .before .before .before .before .before .if2 .left))
 
 pub side-text-spec : {M : Type 1} → statement M
 side-text-spec =

@@ -23,7 +23,7 @@ array-share-prefix-out c = search needs
 slice-aggregate-write-all : tie.Need-slice-aggregate-write-all
 slice-aggregate-write-all c =
     let t = c .before .before .side-text in
-    let h : t .result ≤ length (t .last .1 .0) = omega (arith, t .ensures .1, t .kept .1 .0) in
+    let h : t .result ≤ length (t .last .1 .0) = omega (arith, t .ensures .0 .1, t .kept .1 .0) in
     sym (length-take-le (t .result) (t .last .1 .0) h)
 
 write-all-requires : tie.Need-write-all-requires

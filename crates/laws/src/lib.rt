@@ -1,0 +1,1 @@
+// Theorems about the definitions of `symbology` alone, in proofs/. This crate has no functions.
