@@ -1,10 +1,9 @@
 -- Rows and numbers of Tables 1 and 2 as the code holds them.
 -- Assumes nothing.
-use Prim.Native.Nat.{ℕ, _+_, _-_, _*_, _/_, _%_}
+use Prim.Native.Nat.{ℕ, _+_, _-_}
 use mathlib.Core.List.{List, [], _++_}
 use lib.ListN.{length, getD, take, replicate}
-use Rattle.symbology.specs.Capacity.{bitsPerModule, dataModules, asBits}
-use Rattle.symbology.specs.Published.{table1, table1Entries}
+use Rattle.symbology.specs.Published.{table1, squareModules, squareBits}
 use Rattle.tables.specs.declared.CoreRow.{CoreRow}
 use Rattle.tables.specs.declared.Counts.{Counts}
 
@@ -18,9 +17,6 @@ publishedCounts version c =
     let row = getD table1 (version - 1) [] in
     record { modules = record { 0 = getD row c 0 }; bits = record { 0 = getD row (c + 4) 0 } }
 
--- D and C of a square symbol by the formulas, with the list entries that document 01 says for Table 1's column c: the kind is
--- 0, 0, 1, 1 and the colours are 4, 8, 4, 8
+-- D and C by the formulas
 unfoldable pub formulaCounts : ℕ → ℕ → Counts
-formulaCounts version c =
-    let d = dataModules (c / 2) version version (getD table1Entries c 0) in
-    record { modules = d; bits = asBits d (bitsPerModule (4 + c % 2 * 4)) }
+formulaCounts version c = record { modules = squareModules version c; bits = squareBits version c }

@@ -24,10 +24,11 @@ same-length c = search needs
 
 returns : tie.Need-returns
 returns c =
+    let s = c .before .before .before .before .before .before .before .before in
     let t = c .before .before .side-text in
     let number = c .before .before .before .before .number-of .ensures ∙ ap scanNumber (c .before .before .before .before .before .scan .ensures) in
-    let same = ap sideText number ∙ scan-listing (c .before .before .before .before .before .before .before .before .args .input .now) in
-    subst (λ (text : List ℕ). Stored text (c .before .before .before .before .before .before .before .before .args .out .now) (t .last .1 .0) (t .result)) same (t .ensures)
+    let same = ap sideText number ∙ scan-listing (s .args .input .now) in
+    subst (λ (text : List ℕ). Stored text (s .args .out .now) (t .last .1 .0) (t .result)) same (t .ensures)
 
 pub list-side-spec : {M : Type 1} → statement M
 list-side-spec =

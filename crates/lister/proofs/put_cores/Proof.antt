@@ -31,14 +31,16 @@ cores-are c = c .wide .ensures ∙ ap (λ (r : CoreRow). r .len) (c .before .cor
 
 loop-holds : tie.Need-loop-holds Inv-loop μ-loop
 loop-holds c =
-    let v = c .before .before .before .args .version in
-    let n = core-count v (c .before .before .before .pre .1) (c .before .before .before .pre .2) in
-    (omega arith, omega arith, left-all (coresAfter (drop 1 (coresOf v))) (c .before .before .before .args .at) (c .before .before .before .args .out .now))
+    let s = c .before .before .before in
+    let v = s .args .version in
+    let n = core-count v (s .pre .1) (s .pre .2) in
+    (omega arith, omega arith, left-all (coresAfter (drop 1 (coresOf v))) (s .args .at) (s .args .out .now))
 
 element-copy-out-wide : tie.Need-element-copy-out-wide Inv-loop μ-loop
 element-copy-out-wide c =
-    let v = c .before .before .before .before .before .args .version in
-    let n = core-count v (c .before .before .before .before .before .pre .1) (c .before .before .before .before .before .pre .2) in
+    let s = c .before .before .before .before .before in
+    let v = s .args .version in
+    let n = core-count v (s .pre .1) (s .pre .2) in
     omega (arith, cores-are (c .before .before))
 
 wide-requires-2 : tie.Need-wide-requires-2 Inv-loop μ-loop
@@ -65,8 +67,9 @@ put-requires c κs = omega (arith, core-is (c .before) .2)
 
 put-decimal-requires : tie.Need-put-decimal-requires Inv-loop μ-loop
 put-decimal-requires c κs =
+    let s = c .before .before .before .before .before .before .before .before .before .before .before .before in
     let k = core-is (c .before .before .before .before .before) in
-    let m = core-most (c .before .before .before .before .before .before .before .before .before .before .before .before .args .version) (c .before .before .before .before .before .before .before .before .before .before .before .before .pre .1) (c .before .before .before .before .before .before .before .before .before .before .before .before .pre .2) (c .before .before .before .before .before .before .before .before .loop .i) (k .1) in
+    let m = core-most (s .args .version) (s .pre .1) (s .pre .2) (c .before .before .before .before .before .before .before .before .loop .i) (k .1) in
     (omega (arith, c .before .before .before .put .ensures .place, k .2), omega (arith, k .0))
 
 add-i : tie.Need-add-i Inv-loop μ-loop

@@ -16,16 +16,19 @@ put-cores-requires : tie.Need-put-cores-requires
 put-cores-requires c κs = search needs
 
 put-requires-2 : tie.Need-put-requires-2
-put-requires-2 c κs = omega (arith, c .before .before .before .before .before .before .before .put .ensures .place, c .before .before .before .put-cores .ensures .place, cores-length (c .before .before .before .before .before .before .before .before .before .before .args .version) (c .before .before .before .before .before .before .before .before .before .before .pre .1) (c .before .before .before .before .before .before .before .before .before .before .pre .2))
+put-requires-2 c κs =
+    let s = c .before .before .before .before .before .before .before .before .before .before in
+    omega (arith, c .before .before .before .before .before .before .before .put .ensures .place, c .before .before .before .put-cores .ensures .place, cores-length (s .args .version) (s .pre .1) (s .pre .2))
 
 same-length : tie.Need-same-length
 same-length c = search needs
 
 returns : tie.Need-returns
 returns c =
-    let v = c .before .before .before .before .before .before .before .before .before .before .before .before .before .args .version in
-    let n = core-count v (c .before .before .before .before .before .before .before .before .before .before .before .before .before .pre .1) (c .before .before .before .before .before .before .before .before .before .before .before .before .before .pre .2) in
-    same-text (cores-line (coresOf v) (omega arith) (core-first v (c .before .before .before .before .before .before .before .before .before .before .before .before .before .pre .1) (c .before .before .before .before .before .before .before .before .before .before .before .before .before .pre .2))) (joined (joined (c .before .before .before .before .before .before .before .before .before .before .put .ensures) (c .before .before .before .before .before .before .put-cores .ensures)) (c .before .before .put2 .ensures))
+    let s = c .before .before .before .before .before .before .before .before .before .before .before .before .before in
+    let v = s .args .version in
+    let n = core-count v (s .pre .1) (s .pre .2) in
+    same-text (cores-line (coresOf v) (omega arith) (core-first v (s .pre .1) (s .pre .2))) (joined (joined (c .before .before .before .before .before .before .before .before .before .before .put .ensures) (c .before .before .before .before .before .before .put-cores .ensures)) (c .before .before .put2 .ensures))
 
 pub put-cores-line-spec : {M : Type 1} → statement M
 put-cores-line-spec =

@@ -30,7 +30,9 @@ same-length-2 : tie.Need-same-length-2
 same-length-2 c = search needs
 
 returns-2 : tie.Need-returns-2
-returns-2 c = stored-three (c .before .before .before .before .before .before .before .before .before .before .before .args .n) (c .before .before .before .before .before .before .before .before .before .if1 .left) (c .before .before .before .before .before .before .before .before .before .before .before .pre .1) (c .before .before .before .digit .ensures) (c .before .before .before .before .before .before .before .put-short2 .ensures) (c .before .before .put .ensures)
+returns-2 c =
+    let s = c .before .before .before .before .before .before .before .before .before .before .before in
+    stored-three (s .args .n) (c .before .before .before .before .before .before .before .before .before .if1 .left) (s .pre .1) (c .before .before .before .digit .ensures) (c .before .before .before .before .before .before .before .put-short2 .ensures) (c .before .before .put .ensures)
 
 pub put-decimal-spec : {M : Type 1} → statement M
 put-decimal-spec =

@@ -11,7 +11,9 @@ put-decimal-requires : tie.Need-put-decimal-requires
 put-decimal-requires c κs = search needs
 
 put-requires : tie.Need-put-requires
-put-requires c κs = omega (arith, c .before .before .before .put-decimal .ensures .place, decimal-length (c .before .before .before .before .before .before .args .n) (c .before .before .before .before .before .before .pre .1))
+put-requires c κs =
+    let s = c .before .before .before .before .before .before in
+    omega (arith, c .before .before .before .put-decimal .ensures .place, decimal-length (s .args .n) (s .pre .1))
 
 same-length : tie.Need-same-length
 same-length c = search needs

@@ -32,7 +32,9 @@ same-length-2 : tie.Need-same-length-2
 same-length-2 c = search needs
 
 returns-2 : tie.Need-returns-2
-returns-2 c = stored-two (c .before .before .before .before .before .before .before .before .before .before .before .before .args .n) (c .before .before .before .before .before .before .before .before .before .before .if1 .left) (c .before .before .before .before .before .before .before .before .before .before .before .before .pre .1) (c .before .before .before .before .before .before .before .before .digit2 .ensures) (c .before .before .before .digit3 .ensures) (c .before .before .before .before .before .before .before .put2 .ensures) (c .before .before .put3 .ensures)
+returns-2 c =
+    let s = c .before .before .before .before .before .before .before .before .before .before .before .before in
+    stored-two (s .args .n) (c .before .before .before .before .before .before .before .before .before .before .if1 .left) (s .pre .1) (c .before .before .before .before .before .before .before .before .digit2 .ensures) (c .before .before .before .digit3 .ensures) (c .before .before .before .before .before .before .before .put2 .ensures) (c .before .before .put3 .ensures)
 
 pub put-short-spec : {M : Type 1} → statement M
 put-short-spec =

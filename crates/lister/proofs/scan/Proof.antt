@@ -6,8 +6,6 @@ use borrow.Author.Needs.{needs}
 use lib.ListN.{length, drop, drop-of-length-le}
 use Rattle.lister.specs.Scanning.{scannedAll}
 use Rattle.lister.proofs.Scanning.{scanned-next}
-use Prim.Native.Nat.{_≤_, _-_}
-use mathlib.Core.Path.{_≡_, _∙_, refl}
 use Rattle.lister.proofs.scan.Statement.{statement}
 use Rattle.lister.proofs.scan.Tie as tie
 
