@@ -1,4 +1,3 @@
-pub mod Scanning
 pub mod Text
 pub mod Digits
 pub mod Lengths

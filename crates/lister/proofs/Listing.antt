@@ -9,11 +9,12 @@ use native.Mathlib.Decide.{decLt}
 use lib.ListN.{length, getD, drop, length-append}
 use borrow.Author.Tests.{lt-leb, le-leb}
 use Rattle.symbology.specs.Sides.{coresOf, innerPatterns}
-use Rattle.lister.specs.declared.Numeral.the-variants.{Start}
+use Rattle.numerals.specs.declared.Numeral.the-variants.{Start}
 use Rattle.lister.specs.Decimal.{digitsUpTo, decimal}
-use Rattle.lister.specs.Scanning.{scannedAll, scanNumber}
-use Rattle.lister.specs.Listing.{numberLine, coresAfter, coresLine, refusedLine, sideText, sideNumber, listing}
-use Rattle.lister.proofs.Scanning.{scan-number}
+use Rattle.numerals.specs.Decimal.{numberIn}
+use Rattle.numerals.specs.Scanning.{scannedAll, scanNumber}
+use Rattle.lister.specs.Listing.{numberLine, coresAfter, coresLine, refusedLine, sideText, listing}
+use Rattle.numerals.proofs.Scanning.{scan-number}
 use Rattle.lister.proofs.Lengths.{text-length}
 
 -- a line of core coordinates that begins with 4
@@ -59,4 +60,4 @@ side-text-same m n e =
 -- the text by the scan is what the side lister prints
 pub scan-listing : (input : List ℕ) → sideText (scanNumber (scannedAll Start input)) ≡ listing input
 unfolding listing
-scan-listing input = side-text-same (scanNumber (scannedAll Start input)) (sideNumber input) (scan-number input)
+scan-listing input = side-text-same (scanNumber (scannedAll Start input)) (numberIn input) (scan-number input)

@@ -1,12 +1,9 @@
--- Decimal numbers in ASCII.
+-- Decimal numbers written in ASCII.
 -- Assumes nothing.
-use Prim.Native.Nat.{ℕ, zero, suc, _+_, _-_, _*_, _/_, _%_}
-use mathlib.Core.Bool.{Bool, true, false, cond, _&&_}
+use Prim.Native.Nat.{ℕ, zero, suc, _+_, _/_, _%_}
+use mathlib.Core.Bool.{cond}
 use mathlib.Core.List.{List, [], _∷_, _++_}
-use lib.Dec.{ltb, eqb}
-use Rattle.symbology.specs.Ranges.{within}
-
--- ---- written
+use lib.Dec.{ltb}
 
 -- at most k digits of n, the highest first, with no zeros in front
 unfoldable pub digitsUpTo : ℕ → ℕ → List ℕ
@@ -16,33 +13,3 @@ digitsUpTo (suc k) n = cond (ltb n 10) ((48 + n) ∷ []) (digitsUpTo k (n / 10) 
 -- a number below 10 ^ 20 in decimal
 unfoldable pub decimal : ℕ → List ℕ
 decimal n = digitsUpTo 20 n
-
--- ---- read
-
--- an ASCII digit
-abbrev pub isDigit : ℕ → Bool
-isDigit b = within 48 57 b
-
--- the number that a digit writes, and 10 for any other byte
-abbrev pub digitOf : ℕ → ℕ
-digitOf b = cond (isDigit b) (b - 48) 10
-
--- nothing follows
-abbrev pub isEnd : List ℕ → Bool
-isEnd [] = true
-isEnd (b ∷ bs) = false
-
--- digits, and at most one newline after them
-unfoldable pub restOfNumeral : List ℕ → Bool
-restOfNumeral [] = true
-restOfNumeral (b ∷ bs) = cond (isDigit b) (restOfNumeral bs) (eqb b 10 && isEnd bs)
-
--- at least one digit before that
-unfoldable pub isNumeral : List ℕ → Bool
-isNumeral [] = false
-isNumeral (b ∷ bs) = isDigit b && restOfNumeral bs
-
--- the number that n and then the digits write; what is no digit is passed over
-unfoldable pub numeralValue : ℕ → List ℕ → ℕ
-numeralValue n [] = n
-numeralValue n (b ∷ bs) = numeralValue (cond (isDigit b) (10 * n + digitOf b) n) bs

@@ -8,7 +8,8 @@ use lib.ListN.{length}
 use lib.Seq.{sets}
 use Rattle.symbology.specs.Ranges.{within}
 use Rattle.symbology.specs.Sides.{sideSize, coresOf, innerPatterns}
-use Rattle.lister.specs.Decimal.{decimal, isNumeral, numeralValue}
+use Rattle.numerals.specs.Decimal.{numberIn}
+use Rattle.lister.specs.Decimal.{decimal}
 
 -- a line of one number
 unfoldable pub numberLine : ℕ → List ℕ
@@ -32,13 +33,9 @@ refusedLine = 114 ∷ 101 ∷ 102 ∷ 117 ∷ 115 ∷ 101 ∷ 100 ∷ 32 ∷ 49 
 unfoldable pub sideText : ℕ → List ℕ
 sideText v = cond (within 1 32 v) (numberLine (sideSize v) ++ coresLine (coresOf v) ++ numberLine (innerPatterns v v)) refusedLine
 
--- the number that the input is, and 0, which is no side-version, where it is none
-unfoldable pub sideNumber : List ℕ → ℕ
-sideNumber input = cond (isNumeral input) (numeralValue 0 input) 0
-
--- what the side lister prints
+-- what the side lister prints: 0, the number of a text that is none, is no side-version
 unfoldable pub listing : List ℕ → List ℕ
-listing input = sideText (sideNumber input)
+listing input = sideText (numberIn input)
 
 -- text stored from a place on, as far as the buffer reaches, and the place behind it
 pub record TextAt (text : List ℕ) (at : ℕ) (before after : List ℕ) (next : ℕ) : Type 0 where

@@ -1,7 +1,7 @@
 // Reads a decimal number from standard input and prints the side of that side-version, or refuses.
 use libc::STDIN_FILENO;
 use libc::STDOUT_FILENO;
-use lister::Numeral;
+use numerals::Numeral;
 
 // The number that standard input is, read piece by piece to its end.
 fn input_number() -> usize {
@@ -14,10 +14,10 @@ fn input_number() -> usize {
         if n == 0 {
             break;
         }
-        state = lister::scan(state, &space[..n]);
+        state = numerals::scan(state, &space[..n]);
         turns += 1;
     }
-    lister::number_of(state)
+    numerals::number_of(state)
 }
 
 fn main() {

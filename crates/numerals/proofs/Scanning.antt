@@ -11,11 +11,10 @@ use lib.ListN.{length, getD, drop}
 use lib.Seq.{drop-cons}
 use lib.Dec.{eqb}
 use borrow.Author.Tests.{eq-eqb, ne-eqb, lt-ltb, le-ltb, lt-leb, le-leb}
-use Rattle.lister.specs.declared.Numeral.{Numeral}
-use Rattle.lister.specs.declared.Numeral.the-variants.{Start, Digits, Ended, Broken}
-use Rattle.lister.specs.Decimal.{isDigit, digitOf, isEnd, restOfNumeral, isNumeral, numeralValue}
-use Rattle.lister.specs.Scanning.{grown, scanned, scannedAll, scanNumber}
-use Rattle.lister.specs.Listing.{sideNumber}
+use Rattle.numerals.specs.declared.Numeral.{Numeral}
+use Rattle.numerals.specs.declared.Numeral.the-variants.{Start, Digits, Ended, Broken}
+use Rattle.numerals.specs.Decimal.{isDigit, digitOf, isEnd, restOfNumeral, isNumeral, numeralValue, numberIn}
+use Rattle.numerals.specs.Scanning.{grown, scanned, scannedAll, scanNumber}
 
 -- ---- one byte
 
@@ -83,7 +82,7 @@ byte b =
           ]
     ]
 
--- a number that is no side-version stays none, whatever digits follow
+-- a number above 32 stays above, whatever digits follow
 grown-same : (m n d : ℕ) → min m 33 ≡ min n 33 → min (grown m d) 33 ≡ min (10 * n + d) 33
 grown-same m n d e =
     elim (decLt 32 m) [
@@ -103,7 +102,7 @@ unfolding scannedAll scanned
 ended-all n [] = refl
 ended-all n (b ∷ bs) = rw (broken-all bs)
 
--- the number scanned after digits is the one written, or both are none of a side-version
+-- the number scanned after digits is the one written, or both are above 32
 digits-all : (bs : List ℕ) (m n : ℕ) → min m 33 ≡ min n 33
     → min (scanNumber (scannedAll (Digits m) bs)) 33 ≡ min (cond (restOfNumeral bs) (numeralValue n bs) 0) 33
 unfolding scannedAll scanned restOfNumeral numeralValue
@@ -121,9 +120,9 @@ digits-all (b ∷ bs) m n e = go (byte b) (digits-all bs)
         at-end (c ∷ cs) = refl
     go (other d x y) ih = rw (y, x, d, broken-all bs)
 
--- the number scanned is the number that the input is, or neither is a side-version
-pub scan-number : (input : List ℕ) → min (scanNumber (scannedAll Start input)) 33 ≡ min (sideNumber input) 33
-unfolding scannedAll scanned sideNumber isNumeral numeralValue
+-- the number scanned is the number that the text is, or both are above 32
+pub scan-number : (input : List ℕ) → min (scanNumber (scannedAll Start input)) 33 ≡ min (numberIn input) 33
+unfolding scannedAll scanned numberIn isNumeral numeralValue
 scan-number [] = refl
 scan-number (b ∷ bs) = go (byte b)
   where
