@@ -1,1 +1,2 @@
 pub mod WholeSymbol
+pub mod Rectangle

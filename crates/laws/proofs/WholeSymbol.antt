@@ -1,4 +1,4 @@
--- One symbol written and read, computed by the checker. All its modules but three are reserved, so that C is 9, Pg 8, K 6 and Pn 2
+-- One symbol written and read, computed by the checker. All its modules but three are reserved or on a pattern, so that C is 9, Pg 8, K 6 and Pn 2
 -- and the search for the codeword is short; the list passes its test, and nothing of the definitions is left out. The expected
 -- numbers were worked out by a second program.
 -- Assumes nothing.
@@ -14,7 +14,7 @@ use Rattle.symbology.specs.declared.Sizes.{Sizes}
 use Rattle.symbology.specs.declared.ReadAnswer.{ReadAnswer}
 use Rattle.symbology.specs.Ranges.{sumFrom, joinFrom, tabulate, those, lowest, has, allBelow, allHold}
 use Rattle.symbology.specs.Bits.{value, bits, anyOne}
-use Rattle.symbology.specs.Legal.{legal}
+use Rattle.symbology.specs.Parameters.{inRange}
 use Rattle.symbology.specs.Sides.{coreTable, coresOf, innerPatterns}
 use Rattle.symbology.specs.Patterns.{nearCore, finder, patternOf, inSquares, colourIn, meeting, patternAt, covered, patternColour}
 use Rattle.symbology.specs.Reserved.{entryAt, firstEntry, badEntry, badAt, entryVerdict, listVerdict, listNumber, listPlace}
@@ -29,9 +29,9 @@ use Rattle.symbology.specs.Modes.{modeWidth, codeWidth, endNumber}
 use Rattle.symbology.specs.Stream.{readCode, readCodes, decode, byteRuns, byteStream}
 use Rattle.symbology.specs.Net.{withEndMark, upToLastOne, streamIn, stuffing}
 use Rattle.symbology.specs.Placement.{patternCell, cellOf, isData, columnData, rank, maskGenerators, maskAt, dataModule, onCell, moduleAt, cellBits, bitsAt, sampled, firstBadModule}
-use Rattle.symbology.specs.Tests.{firstOf, sizeRows, bufferRows, frontRows, sizesFor}
+use Rattle.symbology.specs.Tests.{firstOf, sizeTests, bufferTests, frontTests, sizesFor}
 use Rattle.symbology.specs.Write.{codewordFor, placedBits}
-use Rattle.symbology.specs.Read.{receivedBits, sameBits, wrongStuffing, checksFor, messageOf, answerFromNet, answerFromAccepted, answerFromReceived, answerFromMatrix, readAnswer}
+use Rattle.symbology.specs.Read.{receivedBits, sameBits, wrongStuffing, checksFor, messageBitsFor, answerFromNet, answerFromAccepted, answerFromReceived, answerFromMatrix, readAnswer}
 
 -- ---- the symbol
 
@@ -100,7 +100,7 @@ matrix : ℕ → ℕ → ℕ → List ℕ
 matrix a b c = set (set (set (replicate 441 0) 0 a) 198 b) 419 c
 
 read : ℕ → ℕ → ℕ → ReadAnswer
-unfolding placed modules matrix joinFrom bits anyOne allHold legal badEntry badAt entryVerdict listVerdict listNumber listPlace unshuffledFirst unshuffled unmetAt metAt isSuspect suspect turned ends repairs afterTurns repairsOf lastWord stuck messageBits modeWidth codeWidth endNumber readCode readCodes decode upToLastOne streamIn cellBits bitsAt sampled firstBadModule firstOf sizeRows bufferRows frontRows receivedBits sameBits wrongStuffing checksFor messageOf answerFromNet answerFromAccepted answerFromReceived answerFromMatrix readAnswer
+unfolding placed modules matrix joinFrom bits anyOne allHold inRange badEntry badAt entryVerdict listVerdict listNumber listPlace unshuffledFirst unshuffled unmetAt metAt isSuspect suspect turned ends repairs afterTurns repairsOf lastWord stuck messageBits modeWidth codeWidth endNumber readCode readCodes decode upToLastOne streamIn cellBits bitsAt sampled firstBadModule firstOf sizeTests bufferTests frontTests receivedBits sameBits wrongStuffing checksFor messageBitsFor answerFromNet answerFromAccepted answerFromReceived answerFromMatrix readAnswer
 read a b c =
     let l = reserved in
     let m = matrix a b c in

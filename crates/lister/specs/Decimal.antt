@@ -5,7 +5,7 @@ use mathlib.Core.Bool.{cond}
 use mathlib.Core.List.{List, [], _∷_, _++_}
 use lib.Dec.{ltb}
 
--- at most k digits of n, the highest first, with no zeros in front
+-- the last k digits of n, the highest first, and fewer where n has fewer
 unfoldable pub digitsUpTo : ℕ → ℕ → List ℕ
 digitsUpTo zero n = []
 digitsUpTo (suc k) n = cond (ltb n 10) ((48 + n) ∷ []) (digitsUpTo k (n / 10) ++ ((48 + n % 10) ∷ []))

@@ -24,7 +24,7 @@ unfoldable pub scannedAll : Numeral → List ℕ → Numeral
 scannedAll s [] = s
 scannedAll s (b ∷ bs) = scannedAll (scanned s b) bs
 
--- the number of an input in this state, 0 where it is none
+-- the number of an input in this state: 0 where it is none, and some number above 32 where it is above 32
 abbrev pub scanNumber : Numeral → ℕ
 scanNumber Start = 0
 scanNumber (Digits n) = n

@@ -5,8 +5,8 @@ ghost use mathlib.Core.Path.{_≡_};
 ghost use Rattle.numerals.specs.Decimal.{digitOf};
 ghost use Rattle.numerals.specs.Scanning.{grown, scanned, scannedAll, scanNumber};
 
-// What the bytes read so far are: none; digits, which write this number; digits and a newline; or
-// no number, whatever follows.
+// What the bytes read so far are: none; digits, which write this number or, where it is above 32,
+// some number above 32; such digits and a newline; or no number, whatever follows.
 pub enum Numeral {
     Start,
     Digits(usize),
@@ -78,7 +78,8 @@ pub fn scan(state: Numeral, bytes: &[u8]) -> Numeral
     s
 }
 
-// The number that an input in this state is: 0, which is no side-version, where it is none.
+// The number that an input in this state is: 0 where it is none, and some number above 32 where it
+// is above 32.
 pub fn number_of(state: Numeral) -> usize
     ensures { λ r. ⌜ r ≡ scanNumber state ⌝ }
 {

@@ -1,35 +1,36 @@
 -- Document 01, "Points on each side": the points P1 to P12, one statement over one list.
 -- Assumes nothing.
 use Prim.Native.Nat.{ℕ, _-_}
-use mathlib.Core.Bool.{Bool, not, _&&_}
-use mathlib.Core.List.{List, [], _∷_, map}
-use lib.ListN.{length}
+use mathlib.Core.Bool.{Bool, not}
+use mathlib.Core.List.{List, [], _∷_, map, _++_}
+use lib.ListN.{length, replicate}
 use lib.Dec.{T, eqb}
 use lib.Ieee.{mul, div, ofInt, toUnsigned}
 use Rattle.symbology.specs.declared.Params.{Params}
-use Rattle.symbology.specs.Ranges.{allHold, lowest, tabulate, has}
+use Rattle.symbology.specs.Ranges.{allHold, lowest, tabulate, has, joinFrom}
 use Rattle.symbology.specs.Bits.{value, bits, anyOne}
-use Rattle.symbology.specs.Legal.{legal}
+use Rattle.symbology.specs.Parameters.{inRange}
 use Rattle.symbology.specs.Sides.{sideSize, coreTable, coresOf, innerPatterns}
-use Rattle.symbology.specs.Reserved.{listVerdict, entryVerdict, listNumber, listPlace}
+use Rattle.symbology.specs.Patterns.{nearCore, finder, patternOf, inSquares, colourIn, meeting, patternAt, covered, patternColour}
+use Rattle.symbology.specs.Reserved.{listVerdict, entryVerdict, listNumber, listPlace, entryAt, firstEntry, badEntry, badAt}
 use Rattle.symbology.specs.Capacity.{bitsPerModule, patternModules, dataModules, asBits, capacity, sizesOf}
 use Rattle.symbology.specs.Place.{scaled, rawPlace, placeOf}
 use Rattle.symbology.specs.Rule.{bitSum, unmet, unmetCount, unmetAt, metAt, isSuspect, suspect, turned, ends, repairs, afterTurns, repairsOf, lastWord, stuck}
 use Rattle.symbology.specs.Modes.{modeWidth, codeWidth, endNumber}
-use Rattle.symbology.specs.Stream.{readCode, readCodes, decode, byteRuns, byteStream}
-use Rattle.symbology.specs.Net.{upToLastOne, streamIn, stuffing, exceeds}
-use Rattle.symbology.specs.Tests.{firstOf, sizeRows, bufferRows, frontRows}
-use Rattle.symbology.specs.Write.{writeRows, writeAnswer}
+use Rattle.symbology.specs.Stream.{readCode, readCodes, decode, byteRuns, byteStream, byteBits, runCount, byteRun}
+use Rattle.symbology.specs.Net.{upToLastOne, streamIn, stuffing, exceeds, withEndMark}
+use Rattle.symbology.specs.Tests.{firstOf, sizeTests, bufferTests, frontTests}
+use Rattle.symbology.specs.Write.{writeTests, writeAnswer}
 use Rattle.symbology.specs.Read.{sameBits, answerFromNet, readAnswer}
 
--- a square primary symbol of 8 colours
-abbrev symbol : ℕ → ℕ → ℕ → Params
-symbol version wc wr =
+-- a square primary symbol
+abbrev symbol : ℕ → ℕ → ℕ → ℕ → Params
+symbol version colours wc wr =
     record {
       kind = 0;
       horizontal = version;
       vertical = version;
-      colours = 8;
+      colours = colours;
       black = 0;
       cyan = 3;
       yellow = 2;
@@ -39,10 +40,18 @@ symbol version wc wr =
       turn = 0;
     }
 
--- a write of the empty message, and a read, refuse the side-version with 1
-abbrev refused1 : ℕ → Bool
-refused1 version =
-    eqb (writeAnswer (symbol version 4 9) [] [] 0 0 .number) 1 && eqb (readAnswer (symbol version 4 9) [] [] 0 0 .number) 1
+-- the numbers that a write of the empty message and a read answer, with no list and empty buffers
+abbrev answered : ℕ → List ℕ
+answered version =
+    writeAnswer (symbol version 8 4 9) [] [] 0 0 .number ∷ readAnswer (symbol version 8 4 9) [] [] 0 0 .number ∷ []
+
+-- 24 entries, in the rows 1 and 21 of side-version 1, where no pattern lies
+abbrev entries24 : List ℕ
+entries24 = joinFrom 1 21 (λ x. x ∷ 1 ∷ 0 ∷ []) ++ joinFrom 1 3 (λ x. x ∷ 21 ∷ 0 ∷ [])
+
+-- the number that a write of so many bytes answers, wc 3 and wr 9, with a work buffer of this length
+abbrev writes : ℕ → ℕ → ℕ
+writes bytes room = writeAnswer (symbol 1 8 3 9) entries24 (replicate bytes 0) 441 room .number
 
 -- P10 and P11 count bits from 1
 abbrev fromZero : List (List ℕ) → List (List ℕ)
@@ -65,30 +74,34 @@ points =
     -- P1
     eqb (sideSize 1) 21
     ∷ eqb (sideSize 32) 145
-    ∷ refused1 0
-    ∷ refused1 33
-    ∷ not (refused1 1)
-    ∷ not (refused1 32)
+    ∷ sameBits (answered 0) (1 ∷ 1 ∷ [])
+    ∷ sameBits (answered 33) (1 ∷ 1 ∷ [])
+    ∷ sameBits (answered 1) (4 ∷ 4 ∷ [])
+    ∷ sameBits (answered 32) (3 ∷ 3 ∷ [])
     -- P2
     ∷ eqb (innerPatterns 10 10) 12
     ∷ eqb (patternModules 0 10 10) 152
     -- P3
     ∷ eqb (dataModules 0 1 1 24 .0) 349
-    ∷ eqb (sizesOf (symbol 1 4 9) 24 .capacity) 1047
+    ∷ eqb (sizesOf (symbol 1 8 4 9) 24 .capacity) 1047
     -- P4
     ∷ eqb (dataModules 0 1 1 35 .0) 338
-    ∷ eqb (asBits (dataModules 0 1 1 35) (bitsPerModule 4) .0) 676
+    ∷ eqb (sizesOf (symbol 1 4 4 9) 35 .capacity) 676
     -- P5
-    ∷ eqb (sizesOf (symbol 1 4 9) 24 .block) 116
-    ∷ eqb (sizesOf (symbol 1 4 9) 24 .gross) 1044
-    ∷ eqb (sizesOf (symbol 1 4 9) 24 .checks) 464
-    ∷ eqb (sizesOf (symbol 1 4 9) 24 .net) 580
-    ∷ sameBits (stuffing (1047 - 1044)) (0 ∷ 1 ∷ 0 ∷ [])
+    ∷ eqb (sizesOf (symbol 1 8 4 9) 24 .block) 116
+    ∷ eqb (sizesOf (symbol 1 8 4 9) 24 .gross) 1044
+    ∷ eqb (sizesOf (symbol 1 8 4 9) 24 .checks) 464
+    ∷ eqb (sizesOf (symbol 1 8 4 9) 24 .net) 580
+    ∷ sameBits (stuffing (sizesOf (symbol 1 8 4 9) 24 .capacity - sizesOf (symbol 1 8 4 9) 24 .gross)) (0 ∷ 1 ∷ 0 ∷ [])
     -- P6
-    ∷ eqb (sizesOf (symbol 1 3 9) 24 .checks) 348
-    ∷ eqb (sizesOf (symbol 1 3 9) 24 .net) 696
-    ∷ not (exceeds 695 (sizesOf (symbol 1 3 9) 24 .net))
-    ∷ exceeds 696 (sizesOf (symbol 1 3 9) 24 .net)
+    ∷ eqb (sizesOf (symbol 1 8 3 9) 24 .checks) 348
+    ∷ eqb (sizesOf (symbol 1 8 3 9) 24 .net) 696
+    ∷ not (exceeds 695 (sizesOf (symbol 1 8 3 9) 24 .net))
+    ∷ exceeds 696 (sizesOf (symbol 1 8 3 9) 24 .net)
+    -- and by the whole write: 84 bytes are a stream of 24 + 8 × 84 = 696 bits; 53,964 work bytes are asked for
+    ∷ eqb (writes 84 53964) 6
+    ∷ eqb (writes 83 53964) 0
+    ∷ eqb (writes 83 53963) 5
     -- P7
     ∷ eqb (rawPlace 4294967295 1047) 1047
     ∷ eqb (placeOf 4294967295 1047) 1046
@@ -109,6 +122,8 @@ points =
     ∷ eqb (length (repairsOf checks11 word11)) 0
     ∷ stuck checks11 word11
     -- P12
+    ∷ sameBits (withEndMark 5 (1 ∷ 0 ∷ [])) (1 ∷ 0 ∷ 1 ∷ 0 ∷ 0 ∷ [])
+    ∷ sameBits (withEndMark 5 []) (1 ∷ 0 ∷ 0 ∷ 0 ∷ 0 ∷ [])
     ∷ sameBits (streamIn (1 ∷ 0 ∷ 1 ∷ 0 ∷ 0 ∷ [])) (1 ∷ 0 ∷ [])
     ∷ sameBits (streamIn (1 ∷ 0 ∷ 0 ∷ 0 ∷ 0 ∷ [])) []
     ∷ eqb (answerFromNet (1 ∷ 0 ∷ 0 ∷ 0 ∷ 0 ∷ []) 0 0 0 .number) 0
@@ -116,5 +131,5 @@ points =
     ∷ []
 
 pub all-points : T (allHold points)
-unfolding allHold lowest tabulate has value bits anyOne legal coreTable coresOf innerPatterns listVerdict entryVerdict listNumber listPlace bitsPerModule patternModules dataModules asBits capacity sizesOf scaled rawPlace placeOf mul div ofInt toUnsigned bitSum unmet unmetCount unmetAt metAt isSuspect suspect turned ends repairs afterTurns repairsOf lastWord stuck modeWidth codeWidth endNumber readCode readCodes decode byteRuns byteStream upToLastOne streamIn stuffing firstOf sizeRows bufferRows frontRows writeRows writeAnswer sameBits answerFromNet readAnswer
+unfolding allHold lowest tabulate has value bits anyOne inRange coreTable coresOf innerPatterns listVerdict entryVerdict listNumber listPlace bitsPerModule patternModules dataModules asBits capacity sizesOf scaled rawPlace placeOf mul div ofInt toUnsigned bitSum unmet unmetCount unmetAt metAt isSuspect suspect turned ends repairs afterTurns repairsOf lastWord stuck modeWidth codeWidth endNumber readCode readCodes decode byteRuns byteStream upToLastOne streamIn stuffing firstOf sizeTests bufferTests frontTests writeTests writeAnswer sameBits answerFromNet readAnswer joinFrom nearCore finder patternOf inSquares colourIn meeting patternAt covered patternColour entryAt firstEntry badEntry badAt withEndMark byteBits runCount byteRun
 all-points = tt

@@ -1,5 +1,6 @@
 -- 002, Table 12: the characters of each mode, as Unicode numbers, in the order of their values. Where the table's Char column is
--- blank or says CR LF, its ISO column decides. Document 01: a character beyond the 7-bit set gives its UTF-8 bytes.
+-- blank or says CR LF, its ISO column decides. The euro sign is U+20AC. Document 01:
+-- a character beyond the 7-bit set gives its UTF-8 bytes.
 -- Assumes nothing.
 use Prim.Native.Nat.{ℕ, _+_, _/_, _%_}
 use mathlib.Core.Bool.{cond}

@@ -1,4 +1,4 @@
--- Document 01, "Bits": check columns, message columns and the codeword of any matrix of k rows and n columns.
+-- Document 01, "Bits": check columns, message columns and the codeword of any matrix of k rows and n columns, both counted from 0.
 -- Assumes nothing.
 use Prim.Native.Nat.{ℕ, zero, suc, _-_}
 use mathlib.Core.Bool.{Bool, true, cond, not, _&&_, _||_, xor}

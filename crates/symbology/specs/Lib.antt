@@ -1,7 +1,7 @@
 -- The definitions, in the order in which they are read.
 pub mod Ranges
 pub mod Bits
-pub mod Legal
+pub mod Parameters
 pub mod Sides
 pub mod Patterns
 pub mod Reserved

@@ -18,16 +18,16 @@ abbrev pub matrixSeed : ℕ
 matrixSeed = 785465
 
 -- Which column of A0 stands at each of the gross columns of block k, blocks counted from 1. Each block shuffles the columns of the
--- block before, the first those of A0, and the generator runs on.
-unfoldable pub columnOrder : ℕ → ℕ → List ℕ
-columnOrder gross zero = tabulate gross (λ j. j)
-columnOrder gross (suc k) = shuffled 0 (stateAfter (k * gross) matrixSeed) (columnOrder gross k)
+-- block before, the first those of A0, and the generator runs on from the seed.
+unfoldable pub columnOrder : ℕ → ℕ → ℕ → List ℕ
+columnOrder seed gross zero = tabulate gross (λ j. j)
+columnOrder seed gross (suc k) = shuffled 0 (stateAfter (k * gross) seed) (columnOrder seed gross k)
 
 -- Steps 1 and 2. Row r of A0 has its wr ones in the columns r × wr and on, so column c has its 1 in row c div wr. Row i of A is
 -- row i mod t of block i div t + 1.
-unfoldable pub matrixA : ℕ → ℕ → BitMatrix
-matrixA t wr i =
-    let order = columnOrder (t * wr) (i / t + 1) in
+unfoldable pub matrixA : ℕ → ℕ → ℕ → BitMatrix
+matrixA seed t wr i =
+    let order = columnOrder seed (t * wr) (i / t + 1) in
     λ j. eqb (getD order j 0 / wr) (i % t)
 
 -- the check of a row: the columns of its ones, ascending

@@ -59,12 +59,13 @@ patternOf kind turn p q i j =
 abbrev pub offCore : ℕ → ℕ
 offCore o = (o - 2) + (2 - o)
 
--- in one of the two squares that share the core: upper left and lower right, or lower left and upper right
+-- on the sides where the two squares lie that share the core: upper left and lower right of it, or lower left and upper right
 unfoldable pub inSquares : Bool → ℕ → ℕ → Bool
 inSquares true o u = leb o 2 && leb u 2 || leb 2 o && leb 2 u
 inSquares false o u = leb o 2 && leb 2 u || leb 2 o && leb u 2
 
--- The colour of a pattern at an offset across and one down. It depends on the larger distance from the core.
+-- The colour of a pattern at an offset across and one down. It depends on the larger distance d from the core; at 2 a finder
+-- pattern has its core's colour again.
 unfoldable pub colourIn : Pattern → ℕ → ℕ → PatternColour
 colourIn s o u =
     let d = max (offCore o) (offCore u) in

@@ -1,4 +1,4 @@
--- Document 01, "Bits": the place of a draw with n places left, in single precision (IEEE 754, to nearCore, ties to even).
+-- Document 01, "Bits": the place of a draw with n places left, in single precision (IEEE 754, to nearest, ties to even).
 -- Assumes nothing.
 use Prim.Native.Nat.{ℕ, _-_}
 use mathlib.Core.Bool.{false, cond}

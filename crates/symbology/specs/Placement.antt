@@ -1,5 +1,5 @@
--- Document 01, "Bits": the order of data modules, the masks (002, 4.8.1 and Table 20), filling and sampling a matrix. In cellOf
--- columns x and rows y count from 1, as in 000; elsewhere columns c and rows r count from 0.
+-- Document 01, "Bits": the order of data modules, the masks (002, 4.8.1 and Table 20), filling and sampling a matrix. In `cellOf`
+-- columns x and rows y count from 1, as in 000; elsewhere columns and rows count from 0.
 -- Assumes nothing.
 use Prim.Native.Nat.{ℕ, _+_, _*_, _/_, _%_}
 use mathlib.Core.Bool.{Bool, true, false, cond}

@@ -17,7 +17,7 @@ use Rattle.symbology.specs.Codeword.{messageBits}
 use Rattle.symbology.specs.Stream.{decode}
 use Rattle.symbology.specs.Net.{streamIn, stuffing}
 use Rattle.symbology.specs.Placement.{sampled, firstBadModule}
-use Rattle.symbology.specs.Tests.{on, Row, firstOf, frontRows, sizesFor}
+use Rattle.symbology.specs.Tests.{on, Row, firstOf, frontTests, sizesFor}
 use Rattle.symbology.specs.Write.{matrixFor}
 
 -- ---- answers
@@ -60,8 +60,8 @@ unfoldable pub checksFor : Sizes → List (List ℕ)
 checksFor s = checksOf (s .checks) (s .gross) (matrixFor s)
 
 -- the bits of a word in the message columns
-unfoldable pub messageOf : Sizes → List ℕ → List ℕ
-messageOf s w = messageBits (s .checks) (s .gross) (matrixFor s) w
+unfoldable pub messageBitsFor : Sizes → List ℕ → List ℕ
+messageBitsFor s w = messageBits (s .checks) (s .gross) (matrixFor s) w
 
 -- ---- the stages, last to first; `room` is the length of the message buffer
 
@@ -79,7 +79,7 @@ answerFromNet net repairs unmet room =
 -- from the accepted word (document 01's term): 10, a spare message column is 1
 unfoldable pub answerFromAccepted : Sizes → List ℕ → ℕ → ℕ → ℕ → ReadAnswer
 answerFromAccepted s w repairs unmet room =
-    let m = messageOf s w in
+    let m = messageBitsFor s w in
     firstOf (on (anyOne (drop (s .net) m)) (counted 10 repairs unmet) ∷ []) (answerFromNet (take (s .net) m) repairs unmet room)
 
 -- from the received word: 9, stuck; else the read goes on from the word the rule ends with
@@ -102,27 +102,33 @@ answerFromMatrix p l matrix room =
 
 -- the answer of a read with a work buffer and a message buffer of these lengths
 unfoldable pub readAnswer : Params → List ℕ → List ℕ → ℕ → ℕ → ReadAnswer
-readAnswer p l matrix workRoom room = firstOf (frontRows refused p l (length matrix) workRoom) (answerFromMatrix p l matrix room)
+readAnswer p l matrix workRoom room = firstOf (frontTests refused p l (length matrix) workRoom) (answerFromMatrix p l matrix room)
 
--- ---- document 01's table for a read, all its rows in order
+-- ---- document 01's table for a read, all its tests in order
+
+-- 1 to 8: a read reaches the checks (document 01's term) where none holds
+unfoldable pub testsBeforeChecks : Params → List ℕ → List ℕ → ℕ → List (Row ReadAnswer)
+testsBeforeChecks p l matrix workRoom =
+    let bad = firstBadModule (p .colours) matrix in
+    frontTests refused p l (length matrix) workRoom
+    ++ (on (ltb bad (length matrix)) (refused 7 bad) ∷ on (wrongStuffing (sizesFor p l) (receivedBits p l matrix)) (refused 8 0) ∷ [])
+
+unfoldable pub reachesChecks : Params → List ℕ → List ℕ → ℕ → Bool
+reachesChecks p l matrix workRoom = eqb (firstOf (testsBeforeChecks p l matrix workRoom) (refused 0 0) .number) 0
 
 -- 12 and 13 share a row: the number is that of the stream
-unfoldable pub readRows : Params → List ℕ → List ℕ → ℕ → ℕ → List (Row ReadAnswer)
-readRows p l matrix workRoom room =
+unfoldable pub readTests : Params → List ℕ → List ℕ → ℕ → ℕ → List (Row ReadAnswer)
+readTests p l matrix workRoom room =
     let s = sizesFor p l in
-    let bad = firstBadModule (p .colours) matrix in
-    let bs = receivedBits p l matrix in
     let cs = checksFor s in
-    let w = take (s .gross) bs in
+    let w = receivedWord p l matrix in
     let n = length (repairsOf cs w) in
     let first = unmetCount cs w in
-    let m = messageOf s (lastWord cs w) in
+    let m = messageBitsFor s (lastWord cs w) in
     let net = take (s .net) m in
     let d = decode (streamIn net) in
-    frontRows refused p l (length matrix) workRoom
-    ++ (on (ltb bad (length matrix)) (refused 7 bad)
-    ∷ on (wrongStuffing s bs) (refused 8 0)
-    ∷ on (stuck cs w) (counted 9 n first)
+    testsBeforeChecks p l matrix workRoom
+    ++ (on (stuck cs w) (counted 9 n first)
     ∷ on (anyOne (drop (s .net) m)) (counted 10 n first)
     ∷ on (not (anyOne net)) (counted 11 n first)
     ∷ on (not (eqb (d .number) 0)) (counted (d .number) n first)
@@ -133,9 +139,9 @@ readRows p l matrix workRoom room =
 
 -- the bytes that an accepted word gives
 unfoldable pub messageInAccepted : Sizes → List ℕ → List ℕ
-messageInAccepted s w = decode (streamIn (take (s .net) (messageOf s w))) .bytes
+messageInAccepted s w = decode (streamIn (take (s .net) (messageBitsFor s w))) .bytes
 
--- the message of a sampled matrix: the bytes of the word that the rule ends with
+-- the message of a sampled matrix: the bytes of the word that the rule ends with. A read that is refused gives none of them.
 unfoldable pub messageIn : Params → List ℕ → List ℕ → List ℕ
 messageIn p l matrix =
     let s = sizesFor p l in

@@ -1,5 +1,5 @@
 -- Document 01, "What the library takes in hand": the reserved list, three numbers to an entry (column, row, colour index), and
--- "Numbers returned": what makes it bad, and the place of its first fault.
+-- "Numbers returned": what makes it bad, and the place of its first fault. Columns and rows count from 1, entries from 0.
 -- Assumes nothing.
 use Prim.Native.Nat.{ℕ, _+_, _*_, _/_, _%_}
 use mathlib.Core.Bool.{Bool, cond, not, _&&_, _||_}
@@ -50,7 +50,7 @@ badEntry p l k x y colour =
 unfoldable pub badAt : Params → List ℕ → ℕ → Bool
 badAt p l k = badEntry p l k (entryColumn l k) (entryRow l k) (entryColour l k)
 
--- the place of the first bad entry of n, none being bad where it is n
+-- the verdict on n entries, where `place` is that of the first bad one, or n where none is bad
 unfoldable pub entryVerdict : ℕ → ℕ → ListVerdict
 entryVerdict place n = cond (ltb place n) (Fault place) Sound
 

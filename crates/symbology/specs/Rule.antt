@@ -47,7 +47,8 @@ turned w j = set w j (1 - getD w j 0)
 unfoldable pub ends : List (List ℕ) → List ℕ → Bool
 ends cs w = eqb (unmetCount cs w) 0 || eqb (suspect cs w) (length w)
 
--- The repairs: the bits that the rule turns, in order, in at most n steps. n = unmetCount cs w is always enough.
+-- The repairs: the bits that the rule turns, in order, in at most n steps. Where no check names a place twice, as no row of A
+-- does, each step lowers the unmet count, so that n = unmetCount cs w is enough.
 unfoldable pub repairs : List (List ℕ) → ℕ → List ℕ → List ℕ
 repairs cs zero w = []
 repairs cs (suc n) w =

@@ -10,7 +10,7 @@ use Rattle.symbology.specs.Place.{placeOf}
 unfoldable pub drawnPlace : ℕ → ℕ → ℕ
 drawnPlace s n = placeOf (draw s) n
 
--- z is what stands past a list's end; it is never read
+-- z is what stands past a list's end. No place of the library's lists, which have at most 4,096 elements, lies there.
 module _ {A : Type 0} (z : A) where
   -- step 4: the elements at i and j exchanged
   unfoldable pub exchanged : ℕ → ℕ → List A → List A

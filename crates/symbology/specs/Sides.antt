@@ -1,4 +1,4 @@
--- Document 01, "Modules": side sizes and core coordinates; 000, 4.3.5 and Table 2.
+-- Document 01, "Modules": side sizes and core coordinates, counted from 1; 000, 4.3.5 and Table 2.
 -- Assumes nothing.
 use Prim.Native.Nat.{ℕ, _+_, _-_, _*_}
 use mathlib.Core.List.{List, [], _∷_}
@@ -17,7 +17,7 @@ columns p = sideSize (p .horizontal)
 abbrev pub rows : Params → ℕ
 rows p = sideSize (p .vertical)
 
--- 000, Table 2: the coordinates of the core modules, counted from 1, of the side-versions 1 to 32
+-- 000, Table 2: the coordinates of the core modules of the side-versions 1 to 32
 unfoldable pub coreTable : List (List ℕ)
 coreTable =
     (4 ∷ 18 ∷ [])
@@ -54,7 +54,7 @@ coreTable =
     ∷ (4 ∷ 20 ∷ 38 ∷ 55 ∷ 73 ∷ 91 ∷ 108 ∷ 126 ∷ 142 ∷ [])
     ∷ []
 
--- the core coordinates of a side-version
+-- the core coordinates of a side-version from 1 to 32; test 1 shuts the others out
 unfoldable pub coresOf : ℕ → List ℕ
 coresOf v = getD coreTable (v - 1) []
 

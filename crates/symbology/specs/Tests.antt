@@ -7,7 +7,7 @@ use mathlib.Core.List.{List, [], _∷_, _++_}
 use lib.Dec.{ltb, eqb}
 use Rattle.symbology.specs.declared.Params.{Params}
 use Rattle.symbology.specs.declared.Sizes.{Sizes}
-use Rattle.symbology.specs.Legal.{legal}
+use Rattle.symbology.specs.Parameters.{inRange}
 use Rattle.symbology.specs.Reserved.{entries, listVerdict, listNumber, listPlace}
 use Rattle.symbology.specs.Capacity.{sizesOf}
 
@@ -32,22 +32,22 @@ abbrev pub sizesFor : Params → List ℕ → Sizes
 sizesFor p l = sizesOf p (entries l)
 
 -- 1, 2 and 3, which need no buffer; `refusal` makes an answer of a number and a place
-unfoldable pub sizeRows : {A : Type 0} → (ℕ → ℕ → A) → Params → List ℕ → List (Row A)
-sizeRows refusal p l =
+unfoldable pub sizeTests : {A : Type 0} → (ℕ → ℕ → A) → Params → List ℕ → List (Row A)
+sizeTests refusal p l =
     let c = sizesFor p l .capacity in
-    on (not (legal p)) (refusal 1 0)
+    on (not (inRange p)) (refusal 1 0)
     ∷ on (eqb (listNumber (listVerdict p l)) 2) (refusal 2 (listPlace (listVerdict p l)))
     ∷ on (ltb c (p .wr) || ltb 4096 c) (refusal 3 0)
     ∷ []
 
 -- 4 and 5, for a matrix and a work buffer of these lengths
-unfoldable pub bufferRows : {A : Type 0} → (ℕ → ℕ → A) → Params → List ℕ → ℕ → ℕ → List (Row A)
-bufferRows refusal p l modules room =
+unfoldable pub bufferTests : {A : Type 0} → (ℕ → ℕ → A) → Params → List ℕ → ℕ → ℕ → List (Row A)
+bufferTests refusal p l modules room =
     let s = sizesFor p l in
     on (not (eqb modules (s .columns * s .rows))) (refusal 4 0)
     ∷ on (ltb room (s .work)) (refusal 5 0)
     ∷ []
 
--- 1 to 5: parameters, list and buffers are legal where none holds
-unfoldable pub frontRows : {A : Type 0} → (ℕ → ℕ → A) → Params → List ℕ → ℕ → ℕ → List (Row A)
-frontRows refusal p l modules room = sizeRows refusal p l ++ bufferRows refusal p l modules room
+-- 1 to 5
+unfoldable pub frontTests : {A : Type 0} → (ℕ → ℕ → A) → Params → List ℕ → ℕ → ℕ → List (Row A)
+frontTests refusal p l modules room = sizeTests refusal p l ++ bufferTests refusal p l modules room

@@ -55,7 +55,8 @@ pub enum PatternColour {
 }
 
 // A finder or alignment pattern: how far it reaches from its core, whether its squares lie upper
-// left and lower right of the core, its core's colour and that of the ring at distance 1.
+// left and lower right of the core, its core's colour, which a finder pattern has again at distance
+// 2, and that of the ring at distance 1.
 pub struct Pattern {
     pub reach: usize,
     pub falling: bool,
@@ -91,7 +92,7 @@ pub struct ReadAnswer {
     pub unmet: usize,
 }
 
-// The modes of 002, 4.3, to which a stream can be latched.
+// The modes of 002, 4.3, that a reader stays in until the next latch.
 pub enum Mode {
     Upper,
     Lower,

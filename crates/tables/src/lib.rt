@@ -1,7 +1,7 @@
 // Tables 1 and 2 of document 000 as constants, one accessor each: every function that names a table
 // is checked against all its entries, so others call the accessor.
 //
-// The way into the library is the crate `jabcode`.
+// The functions serve the crates above this one and ask for what those have tested.
 use symbology::Bits;
 use symbology::Modules;
 ghost use Prim.Native.Nat.{_≤_, _<_};

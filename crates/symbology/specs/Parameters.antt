@@ -6,9 +6,9 @@ use lib.Dec.{ltb, eqb}
 use Rattle.symbology.specs.declared.Params.{Params}
 use Rattle.symbology.specs.Ranges.{within, allHold}
 
--- kind 0 is a primary symbol, 1 a secondary one
-unfoldable pub legal : Params → Bool
-legal p =
+-- Each parameter is in its range: kind 0 is a primary symbol, 1 a secondary one.
+unfoldable pub inRange : Params → Bool
+inRange p =
     allHold
     (within 0 1 (p .kind)
     ∷ within 1 32 (p .horizontal)
