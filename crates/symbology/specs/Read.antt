@@ -106,13 +106,14 @@ readAnswer p l matrix workRoom room = firstOf (frontTests refused p l (length ma
 
 -- ---- document 01's table for a read, all its tests in order
 
--- 1 to 8: a read reaches the checks (document 01's term) where none holds
+-- 1 to 8
 unfoldable pub testsBeforeChecks : Params → List ℕ → List ℕ → ℕ → List (Row ReadAnswer)
 testsBeforeChecks p l matrix workRoom =
     let bad = firstBadModule (p .colours) matrix in
     frontTests refused p l (length matrix) workRoom
     ++ (on (ltb bad (length matrix)) (refused 7 bad) ∷ on (wrongStuffing (sizesFor p l) (receivedBits p l matrix)) (refused 8 0) ∷ [])
 
+-- a read reaches the checks (document 01's term): none of 1 to 8 holds
 unfoldable pub reachesChecks : Params → List ℕ → List ℕ → ℕ → Bool
 reachesChecks p l matrix workRoom = eqb (firstOf (testsBeforeChecks p l matrix workRoom) (refused 0 0) .number) 0
 
