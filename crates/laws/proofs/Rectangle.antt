@@ -12,23 +12,11 @@ use Rattle.symbology.specs.Patterns.{nearCore, cornerAlignment, innerAlignment,
 use Rattle.symbology.specs.Reserved.{entryAt, firstEntry}
 use Rattle.symbology.specs.Capacity.{bitsPerModule}
 use Rattle.symbology.specs.Placement.{patternCell, cellOf, isData, columnData, rank, maskGenerators, maskAt, dataModule, onCell, moduleAt, filled}
+use Rattle.symbology.proofs.Parameters.{paramsOf}
 
--- a secondary symbol of 25 columns and 21 rows with 4 colours
+-- a secondary symbol of 25 columns and 21 rows with 4 colours, mask 7 and turn 1
 rectangle : Params
-rectangle =
-    record {
-      kind = 1;
-      horizontal = 2;
-      vertical = 1;
-      colours = 4;
-      black = 0;
-      cyan = 1;
-      yellow = 2;
-      wc = 3;
-      wr = 4;
-      mask = 7;
-      turn = 1;
-    }
+rectangle = paramsOf (1 ∷ 2 ∷ 1 ∷ 4 ∷ 0 ∷ 1 ∷ 2 ∷ 3 ∷ 4 ∷ 7 ∷ 1 ∷ [])
 
 matrix : List ℕ
 unfolding rectangle sumFrom joinFrom tabulate lowest value coreTable coresOf nearCore cornerAlignment innerAlignment patternOf inSquares colourIn meeting patternAt patternColour entryAt firstEntry bitsPerModule patternCell cellOf isData columnData rank maskGenerators maskAt dataModule onCell moduleAt filled
@@ -36,7 +24,8 @@ matrix =
     let filling : List ℕ = joinFrom 0 9 (λ i. 1 ∷ 0 ∷ 1 ∷ 1 ∷ 0 ∷ 0 ∷ 1 ∷ 0 ∷ 0 ∷ 1 ∷ []) in
     filled rectangle (5 ∷ 2 ∷ 3 ∷ []) filling
 
--- the matrix's length, and the modules (1, 5), (2, 20), (4, 1), (3, 3) and (24, 20), counted from 0
+-- the matrix's length, and the modules (1, 5), (2, 20), (4, 1), (3, 3) and (24, 20), counted from 0: two data modules, the list
+-- entry, the core of U, and a data module past the bits
 looked : List ℕ
 unfolding matrix
 looked =

@@ -1,12 +1,13 @@
--- One symbol written and read, computed by the checker. All its modules but three are reserved or on a pattern, so that C is 9, Pg 8, K 6 and Pn 2
--- and the search for the codeword is short; the list passes its test, and nothing of the definitions is left out. The expected
--- numbers were worked out by a second program.
+-- One symbol written and read, computed by the checker. All its modules but three are reserved or on a pattern, so that C is 9, Pg
+-- 8, K 6 and Pn 2 and the search for the codeword is short. The whole write and the whole read are computed once, on a written
+-- matrix and on one with a wrong bit; the other cases go from the received word on. The expected numbers were worked out by a
+-- second program.
 -- Assumes nothing.
 use Prim.Native.Nat.{ℕ, _+_, _%_}
 use mathlib.Core.Path.{_≡_, refl}
 use mathlib.Core.Bool.{Bool, cond, _&&_, _||_, xor}
 use mathlib.Core.List.{List, [], _∷_}
-use lib.ListN.{replicate, set}
+use lib.ListN.{length, getD, replicate, set}
 use lib.Dec.{eqb}
 use lib.Ieee.{mul, div, ofInt, toUnsigned}
 use Rattle.symbology.specs.declared.Params.{Params}
@@ -28,28 +29,16 @@ use Rattle.symbology.specs.Codeword.{isSum, checkColumns, isCheckColumn, messag
 use Rattle.symbology.specs.Modes.{modeWidth, codeWidth, endNumber}
 use Rattle.symbology.specs.Stream.{readCode, readCodes, decode, byteRuns, byteStream}
 use Rattle.symbology.specs.Net.{withEndMark, upToLastOne, streamIn, stuffing}
-use Rattle.symbology.specs.Placement.{patternCell, cellOf, isData, columnData, rank, maskGenerators, maskAt, dataModule, onCell, moduleAt, cellBits, bitsAt, sampled, firstBadModule}
+use Rattle.symbology.specs.Placement.{patternCell, cellOf, isData, columnData, rank, maskGenerators, maskAt, dataModule, onCell, moduleAt, filled, cellBits, bitsAt, sampled, firstBadModule}
 use Rattle.symbology.specs.Tests.{firstOf, sizeTests, bufferTests, frontTests, sizesFor}
-use Rattle.symbology.specs.Write.{codewordFor, placedBits}
+use Rattle.symbology.specs.Write.{codewordFor, placedBits, writtenMatrix}
 use Rattle.symbology.specs.Read.{receivedBits, sameBits, wrongStuffing, checksFor, messageBitsFor, answerFromNet, answerFromAccepted, answerFromReceived, answerFromMatrix, readAnswer}
+use Rattle.symbology.proofs.Parameters.{paramsOf}
 
 -- ---- the symbol
 
 symbol : Params
-symbol =
-    record {
-      kind = 0;
-      horizontal = 1;
-      vertical = 1;
-      colours = 8;
-      black = 0;
-      cyan = 3;
-      yellow = 2;
-      wc = 3;
-      wr = 4;
-      mask = 6;
-      turn = 0;
-    }
+symbol = paramsOf (0 ∷ 1 ∷ 1 ∷ 8 ∷ 0 ∷ 3 ∷ 2 ∷ 3 ∷ 4 ∷ 6 ∷ 0 ∷ [])
 
 -- the three data modules, at columns and rows counted from 1
 isLeft : ℕ → ℕ → Bool
@@ -82,16 +71,22 @@ the-placed : placed ≡ (0 ∷ 0 ∷ 0 ∷ 1 ∷ 0 ∷ 1 ∷ 0 ∷ 0 ∷ 0 ∷ [
 unfolding placed
 the-placed = refl
 
--- the data modules of a matrix filled with bits
-modules : List ℕ → List ℕ
-unfolding sizes sumFrom value entryAt firstEntry patternCell cellOf isData columnData rank maskGenerators maskAt dataModule onCell moduleAt
-modules bs =
+written : List ℕ
+unfolding placed sumFrom value entryAt firstEntry patternCell cellOf isData columnData rank maskGenerators maskAt dataModule onCell moduleAt filled writtenMatrix
+written =
     let l = reserved in
-    moduleAt symbol l bs 0 0 ∷ moduleAt symbol l bs 9 9 ∷ moduleAt symbol l bs 20 19 ∷ []
+    writtenMatrix symbol l []
 
-the-modules : modules (0 ∷ 0 ∷ 0 ∷ 1 ∷ 0 ∷ 1 ∷ 0 ∷ 0 ∷ 0 ∷ []) ≡ (0 ∷ 7 ∷ 7 ∷ [])
-unfolding modules
-the-modules = refl
+-- the matrix's length, its three data modules, the core of UL, and the list entries at (2, 1) and (1, 2), counted from 1
+looked : List ℕ
+unfolding written
+looked =
+    let m = written in
+    length m ∷ getD m 0 0 ∷ getD m 198 0 ∷ getD m 419 0 ∷ getD m 66 0 ∷ getD m 1 0 ∷ getD m 21 0 ∷ []
+
+the-written : looked ≡ (441 ∷ 0 ∷ 7 ∷ 7 ∷ 0 ∷ 3 ∷ 3 ∷ [])
+unfolding looked
+the-written = refl
 
 -- ---- read
 
@@ -99,20 +94,25 @@ the-modules = refl
 matrix : ℕ → ℕ → ℕ → List ℕ
 matrix a b c = set (set (set (replicate 441 0) 0 a) 198 b) 419 c
 
-read : ℕ → ℕ → ℕ → ReadAnswer
-unfolding placed modules matrix joinFrom bits anyOne allHold inRange badEntry badAt entryVerdict listVerdict listNumber listPlace unshuffledFirst unshuffled unmetAt metAt isSuspect suspect turned ends repairs afterTurns repairsOf lastWord stuck messageBits modeWidth codeWidth endNumber readCode readCodes decode upToLastOne streamIn cellBits bitsAt sampled firstBadModule firstOf sizeTests bufferTests frontTests receivedBits sameBits wrongStuffing checksFor messageBitsFor answerFromNet answerFromAccepted answerFromReceived answerFromMatrix readAnswer
-read a b c =
+read : List ℕ → ReadAnswer
+unfolding written bits anyOne allHold inRange badEntry badAt entryVerdict listVerdict listNumber listPlace unshuffledFirst unshuffled unmetAt metAt isSuspect suspect turned ends repairs afterTurns repairsOf lastWord stuck messageBits modeWidth codeWidth endNumber readCode readCodes decode upToLastOne streamIn cellBits bitsAt sampled firstBadModule firstOf sizeTests bufferTests frontTests receivedBits sameBits wrongStuffing checksFor messageBitsFor answerFromNet answerFromAccepted answerFromReceived answerFromMatrix readAnswer
+read matrix =
     let l = reserved in
-    let m = matrix a b c in
+    let m = matrix in
     readAnswer symbol l m 78 0
 
 abbrev answer : ℕ → ℕ → ℕ → ReadAnswer
 answer number repairs unmet = record { number = number; place = 0; length = 0; repairs = repairs; unmet = unmet }
 
 -- one bit is wrong: three checks are unmet, one repair mends it, and the message is empty
-read-mended : read 1 7 7 ≡ answer 0 1 3
-unfolding read
+read-mended : read (matrix 1 7 7) ≡ answer 0 1 3
+unfolding read matrix
 read-mended = refl
+
+-- what was written reads back as the empty message, with nothing to repair
+read-written : read written ≡ answer 0 0 0
+unfolding read
+read-written = refl
 
 -- the same from the received word on
 fromWord : List ℕ → ReadAnswer
@@ -120,11 +120,6 @@ unfolding read
 fromWord w =
     let s = sizes in
     answerFromReceived s w 0
-
--- as written: nothing to repair
-word-written : fromWord (1 ∷ 0 ∷ 0 ∷ 0 ∷ 0 ∷ 1 ∷ 0 ∷ 0 ∷ []) ≡ answer 0 0 0
-unfolding fromWord
-word-written = refl
 
 -- one repair, and then no bit is suspect
 word-stuck : fromWord (1 ∷ 1 ∷ 0 ∷ 0 ∷ 0 ∷ 1 ∷ 0 ∷ 0 ∷ []) ≡ answer 9 1 3

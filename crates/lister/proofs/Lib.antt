@@ -1,4 +1,4 @@
 pub mod Text
-pub mod Digits
+pub mod Decimal
 pub mod Lengths
 pub mod Listing

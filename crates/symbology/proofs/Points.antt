@@ -22,23 +22,11 @@ use Rattle.symbology.specs.Net.{upToLastOne, streamIn, stuffing, exceeds
 use Rattle.symbology.specs.Tests.{firstOf, sizeTests, bufferTests, frontTests}
 use Rattle.symbology.specs.Write.{writeTests, writeAnswer}
 use Rattle.symbology.specs.Read.{sameBits, answerFromNet, readAnswer}
+use Rattle.symbology.proofs.Parameters.{paramsOf}
 
 -- a square primary symbol
 abbrev symbol : ℕ → ℕ → ℕ → ℕ → Params
-symbol version colours wc wr =
-    record {
-      kind = 0;
-      horizontal = version;
-      vertical = version;
-      colours = colours;
-      black = 0;
-      cyan = 3;
-      yellow = 2;
-      wc = wc;
-      wr = wr;
-      mask = 0;
-      turn = 0;
-    }
+symbol version colours wc wr = paramsOf (0 ∷ version ∷ version ∷ colours ∷ 0 ∷ 3 ∷ 2 ∷ wc ∷ wr ∷ 0 ∷ 0 ∷ [])
 
 -- the numbers that a write of the empty message and a read answer, with no list and empty buffers
 abbrev answered : ℕ → List ℕ

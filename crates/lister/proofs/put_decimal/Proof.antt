@@ -1,7 +1,7 @@
 -- `lister::put_decimal` meets its contract. Assumes nothing.
 use Prim.Native.Nat.{_/_}
 use native.Mathlib.Omega.{arith}
-use Rattle.lister.proofs.Digits.{decimal-length-two, stored-three}
+use Rattle.lister.proofs.Decimal.{decimal-length-two, stored-three}
 use borrow.Author.Needs.{needs}
 use Rattle.lister.proofs.put_decimal.Statement.{statement}
 use Rattle.lister.proofs.put_decimal.Tie as tie

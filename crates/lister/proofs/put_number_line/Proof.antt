@@ -2,7 +2,7 @@
 use native.Mathlib.Omega.{arith}
 use Rattle.lister.specs.Listing.{numberLine}
 use Rattle.lister.proofs.Text.{joined}
-use Rattle.lister.proofs.Digits.{decimal-length}
+use Rattle.lister.proofs.Decimal.{decimal-length}
 use borrow.Author.Needs.{needs}
 use Rattle.lister.proofs.put_number_line.Statement.{statement}
 use Rattle.lister.proofs.put_number_line.Tie as tie

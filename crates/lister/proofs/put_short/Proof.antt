@@ -1,5 +1,5 @@
 -- `lister::put_short` meets its contract. Assumes nothing.
-use Rattle.lister.proofs.Digits.{stored-one, stored-two}
+use Rattle.lister.proofs.Decimal.{stored-one, stored-two}
 use borrow.Author.Needs.{needs}
 use Rattle.lister.proofs.put_short.Statement.{statement}
 use Rattle.lister.proofs.put_short.Tie as tie
