@@ -1,2 +1,47 @@
+-- Theorems about the definitions, in the order in which they stand on one another.
+
+-- tools
+pub mod Ranges
+pub mod Bits
+pub mod Counting
+pub mod Parameters
+-- layout
+pub mod Sides
+pub mod Windows
+pub mod Patterns
+pub mod Reserved
+pub mod DataModules
+pub mod Masks
+pub mod Ranks
+pub mod Placement
+-- draws and shuffles
+pub mod Generator
+pub mod Rounding
+pub mod Place
+pub mod Shuffle
+-- the check matrix and the codeword
+pub mod Matrix
+pub mod Gf2
+pub mod Kernel
+pub mod Columns
+pub mod Elimination
+pub mod Spare
+pub mod Codeword
+pub mod Agree
+-- the rule
+pub mod Rule
+pub mod Steps
+-- streams
+pub mod Stream
+pub mod ByteMode
+pub mod Net
+-- the calls
+pub mod Tests
+pub mod Sizes
+pub mod Symbols
+pub mod Answers
+pub mod RoundTrip
+pub mod Mending
+-- whole symbols, computed
 pub mod WholeSymbol
 pub mod Rectangle

@@ -3,6 +3,5 @@
 pub mod Ranges
 pub mod Parameters
 pub mod Published
-pub mod Read
 pub mod Points
 pub mod Examples

@@ -1,10 +1,18 @@
 -- Bits in lists: a bit is 0 or 1, the first bit of a number is its highest.
 -- Assumes nothing.
-use Prim.Native.Nat.{ℕ, zero, suc, _+_, _*_, _/_, _%_, _^_}
+use Prim.Native.Nat.{ℕ, zero, suc, _+_, _*_, _/_, _%_, _^_, _≤_, _<_}
 use mathlib.Core.Bool.{Bool, false, _||_}
 use mathlib.Core.List.{List, [], _∷_, _++_}
-use lib.ListN.{length}
+use lib.ListN.{length, getD}
 use lib.Dec.{eqb}
+
+-- each element of the list is a bit; past its end stands 0
+abbrev pub AllBits : List ℕ → Type 0
+AllBits bs = (i : ℕ) → getD bs i 0 ≤ 1
+
+-- each element of the list is a byte
+abbrev pub AllBytes : List ℕ → Type 0
+AllBytes m = (i : ℕ) → getD m i 0 < 256
 
 -- the number that the bits write; of an element that is no bit only its remainder by 2 counts
 unfoldable pub value : List ℕ → ℕ

@@ -21,3 +21,4 @@ pub mod Placement
 pub mod Tests
 pub mod Write
 pub mod Read
+pub mod Mending

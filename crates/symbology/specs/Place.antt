@@ -1,10 +1,11 @@
 -- Document 01, "Bits": the place of a draw with n places left, in single precision (IEEE 754, to nearest, ties to even).
 -- Assumes nothing.
-use Prim.Native.Nat.{ℕ, _-_}
+use Prim.Native.Nat.{ℕ, _-_, _*_, _/_, _^_}
 use mathlib.Core.Bool.{false, cond}
 use lib.Dec.{eqb}
 use lib.IntN.{pos}
-use lib.Ieee.{Float, fin, binary32, mul, div, ofInt, toUnsigned}
+use lib.Ieee.{Float, fin, binary32, mul, div, ofInt, toUnsigned, size}
+use lib.Ieee.Nearest.{closest}
 
 -- the draw, its quotient by 4,294,967,296 and the product with n, each rounded once
 unfoldable pub scaled : ℕ → ℕ → Float
@@ -21,3 +22,15 @@ capped raw n = cond (eqb raw n) (n - 1) raw
 -- the place of the draw d with n places left, counted from 0
 unfoldable pub placeOf : ℕ → ℕ → ℕ
 placeOf d n = capped (rawPlace d n) n
+
+-- ---- the same in whole numbers; that it is the same is a law
+
+-- a whole number rounded to the 24 binary digits of single precision, to nearest, ties to even
+unfoldable pub nearestSingle : ℕ → ℕ
+nearestSingle x =
+    let unit = 2 ^ (size x - 24) in
+    closest x unit * unit
+
+-- the place of the draw d with n places left: the division by 2^32 never rounds
+unfoldable pub wholePlace : ℕ → ℕ → ℕ
+wholePlace d n = capped (nearestSingle (nearestSingle d * n) / 2 ^ 32) n

@@ -1,5 +1,6 @@
 -- The whole read: its answer, and the message buffer at exit (the work buffer is that of a write). It goes in stages, each a
--- function of what the stage before hands on: 1 to 5, then 7 and 8, then 9, then 10, then 11 to 14.
+-- function of what the stage before hands on: 1 to 5, then 7 and 8, then 9, then 10, then 11 to 14. That they are document 01's
+-- table, all its rows in order, is the law `read-table`.
 -- Assumes nothing.
 use Prim.Native.Nat.{ℕ, _-_}
 use mathlib.Core.Bool.{Bool, true, false, cond, not, _&&_}
@@ -104,7 +105,7 @@ answerFromMatrix p l matrix room =
 unfoldable pub readAnswer : Params → List ℕ → List ℕ → ℕ → ℕ → ReadAnswer
 readAnswer p l matrix workRoom room = firstOf (frontTests refused p l (length matrix) workRoom) (answerFromMatrix p l matrix room)
 
--- ---- document 01's table for a read, all its tests in order
+-- ---- reaching the checks
 
 -- 1 to 8
 unfoldable pub testsBeforeChecks : Params → List ℕ → List ℕ → ℕ → List (Row ReadAnswer)
@@ -116,25 +117,6 @@ testsBeforeChecks p l matrix workRoom =
 -- a read reaches the checks (document 01's term): none of 1 to 8 holds
 unfoldable pub reachesChecks : Params → List ℕ → List ℕ → ℕ → Bool
 reachesChecks p l matrix workRoom = eqb (firstOf (testsBeforeChecks p l matrix workRoom) (refused 0 0) .number) 0
-
--- 12 and 13 share a row: the number is that of the stream
-unfoldable pub readTests : Params → List ℕ → List ℕ → ℕ → ℕ → List (Row ReadAnswer)
-readTests p l matrix workRoom room =
-    let s = sizesFor p l in
-    let cs = checksFor s in
-    let w = receivedWord p l matrix in
-    let n = length (repairsOf cs w) in
-    let first = unmetCount cs w in
-    let m = messageBitsFor s (lastWord cs w) in
-    let net = take (s .net) m in
-    let d = decode (streamIn net) in
-    testsBeforeChecks p l matrix workRoom
-    ++ (on (stuck cs w) (counted 9 n first)
-    ∷ on (anyOne (drop (s .net) m)) (counted 10 n first)
-    ∷ on (not (anyOne net)) (counted 11 n first)
-    ∷ on (not (eqb (d .number) 0)) (counted (d .number) n first)
-    ∷ on (ltb room (length (d .bytes))) (counted 14 n first)
-    ∷ [])
 
 -- ---- the message buffer at exit
 

@@ -1,0 +1,230 @@
+-- Demand 1 about the definitions: document 01's table of numbers, row by row, gives the answers of a write and a read; which numbers,
+-- places, lengths and counts an answer can have; and what a refused call leaves as it came.
+-- Assumes nothing.
+use Prim.Native.Nat.{ℕ, suc, _*_, _≤_}
+use mathlib.Core.Path.{_≡_, refl, sym, ap, _∙_, subst⁻¹}
+use mathlib.Core.Bool.{Bool, true, false, cond, not, _||_}
+use mathlib.Core.Logic.{_⊎_, inl, inr, ⊎-elim}
+use mathlib.Core.List.{List, [], _∷_, _++_}
+use native.Mathlib.Omega.{arith}
+use lib.Dec.{eqb, ltb}
+use lib.ListN.{length, take, drop, replicate, length-append, length-drop}
+use lib.Seq.{take-at, drop-at}
+use borrow.Author.Tests.{eq-eqb, ne-eqb, eqb-false, ltb-false, not-true}
+use Rattle.symbology.specs.declared.Params.{Params}
+use Rattle.symbology.specs.declared.Sizes.{Sizes}
+use Rattle.symbology.specs.declared.Answer.{Answer}
+use Rattle.symbology.specs.declared.ReadAnswer.{ReadAnswer}
+use Rattle.symbology.specs.Bits.{anyOne}
+use Rattle.symbology.specs.Parameters.{inRange}
+use Rattle.symbology.specs.Reserved.{listVerdict, listNumber, listPlace}
+use Rattle.symbology.specs.Rule.{unmetCount, repairsOf, lastWord, stuck}
+use Rattle.symbology.specs.Stream.{Decoded, decode, byteStream}
+use Rattle.symbology.specs.Net.{exceeds, streamIn}
+use Rattle.symbology.specs.Placement.{firstBadModule}
+use Rattle.symbology.specs.Tests.{Row, on, firstOf, sizeTests, bufferTests, frontTests, sizesFor}
+use Rattle.symbology.specs.Write.{answer, writeTests, writeAnswer, matrixAfterWrite, isLegal, workAfter}
+use Rattle.symbology.specs.Read.{refused, counted, done, receivedBits, receivedWord, wrongStuffing, checksFor, messageBitsFor, answerFromNet, answerFromAccepted, answerFromReceived, answerFromMatrix, readAnswer, messageInAccepted, messageIn, messageAfter}
+use Rattle.laws.proofs.Tests.{first-append, first-keeps, first-none, front-keeps}
+use Rattle.laws.proofs.Stream.{decode-number}
+
+-- ---- document 01, "Numbers returned"
+
+-- The answer of a write is that of the first of these rows whose test holds, and 0 where none does.
+pub write-table : (p : Params) (l message : List ℕ) (modules room : ℕ)
+    → let s = sizesFor p l in
+    writeAnswer p l message modules room
+    ≡ firstOf
+    (on (not (inRange p)) (answer 1 0)
+    ∷ on (eqb (listNumber (listVerdict p l)) 2) (answer 2 (listPlace (listVerdict p l)))
+    ∷ on (ltb (s .capacity) (p .wr) || ltb 4096 (s .capacity)) (answer 3 0)
+    ∷ on (not (eqb modules (s .columns * s .rows))) (answer 4 0)
+    ∷ on (ltb room (s .work)) (answer 5 0)
+    ∷ on (ltb (s .net) (suc (length (byteStream message)))) (answer 6 0)
+    ∷ [])
+    (answer 0 0)
+unfolding firstOf sizeTests bufferTests frontTests writeTests writeAnswer
+write-table p l message modules room = refl
+
+-- The answer of a read is that of the first of these rows whose test holds, and 0 where none does. 12 and 13 share a row: the number
+-- is the one that the stream met first.
+pub read-table : (p : Params) (l matrix : List ℕ) (work room : ℕ)
+    → let s = sizesFor p l in
+    let bad = firstBadModule (p .colours) matrix in
+    let cs = checksFor s in
+    let w = receivedWord p l matrix in
+    let n = length (repairsOf cs w) in
+    let first = unmetCount cs w in
+    let m = messageBitsFor s (lastWord cs w) in
+    let net = take (s .net) m in
+    let d = decode (streamIn net) in
+    readAnswer p l matrix work room
+    ≡ firstOf
+    (on (not (inRange p)) (refused 1 0)
+    ∷ on (eqb (listNumber (listVerdict p l)) 2) (refused 2 (listPlace (listVerdict p l)))
+    ∷ on (ltb (s .capacity) (p .wr) || ltb 4096 (s .capacity)) (refused 3 0)
+    ∷ on (not (eqb (length matrix) (s .columns * s .rows))) (refused 4 0)
+    ∷ on (ltb work (s .work)) (refused 5 0)
+    ∷ on (ltb bad (length matrix)) (refused 7 bad)
+    ∷ on (wrongStuffing s (receivedBits p l matrix)) (refused 8 0)
+    ∷ on (stuck cs w) (counted 9 n first)
+    ∷ on (anyOne (drop (s .net) m)) (counted 10 n first)
+    ∷ on (not (anyOne net)) (counted 11 n first)
+    ∷ on (not (eqb (d .number) 0)) (counted (d .number) n first)
+    ∷ on (ltb room (length (d .bytes))) (counted 14 n first)
+    ∷ [])
+    (done (length (d .bytes)) n first)
+unfolding firstOf sizeTests bufferTests frontTests receivedWord answerFromNet answerFromAccepted answerFromReceived answerFromMatrix readAnswer
+read-table p l matrix work room = refl
+
+-- ---- which answers there are
+
+-- a stream's number that is not 0 is 12 or 13
+stream-number : (n : ℕ) → (n ≡ 0) ⊎ (n ≡ 12) ⊎ (n ≡ 13) → not (eqb n 0) ≡ true → (9 ≤ n) × (n ≤ 14)
+stream-number n (inl e) t = absurd (eqb-false n 0 (not-true (eqb n 0) t) e)
+stream-number n (inr (inl e)) t = (omega arith, omega arith)
+stream-number n (inr (inr e)) t = (omega arith, omega arith)
+
+-- of a table with one row
+last-row : (Q : ReadAnswer → Type 0) (r : Row ReadAnswer) (d : ReadAnswer)
+    → (r .test ≡ true → Q (r .gives))
+    → (r .test ≡ false → Q d)
+    → Q (firstOf (r ∷ []) d)
+unfolding firstOf
+last-row Q r d first other = go (r .test) first other
+  where
+    go : (t : Bool) → (t ≡ true → Q (r .gives)) → (t ≡ false → Q d) → Q (cond t (r .gives) d)
+    go true f g = f refl
+    go false f g = g refl
+
+-- what each row's answer and the last one have, the answer of a read has
+pub read-keeps : (Q : ReadAnswer → Type 0) (p : Params) (l matrix : List ℕ) (work room : ℕ)
+    → let cs = checksFor (sizesFor p l) in
+    let w = receivedWord p l matrix in
+    let n = length (repairsOf cs w) in
+    let first = unmetCount cs w in
+    ((k place : ℕ) → 1 ≤ k → k ≤ 8 → (k ≡ 6 → ⊥) → (k ≡ 2) ⊎ (k ≡ 7) ⊎ (place ≡ 0) → Q (refused k place))
+    → ((k : ℕ) → 9 ≤ k → k ≤ 14 → Q (counted k n first))
+    → (length (messageIn p l matrix) ≤ room → Q (done (length (messageIn p l matrix)) n first))
+    → Q (readAnswer p l matrix work room)
+unfolding receivedWord messageInAccepted messageIn answerFromNet answerFromAccepted answerFromReceived answerFromMatrix readAnswer
+read-keeps Q p l matrix work room early late last =
+    let s : Sizes = sizesFor p l in
+    let bad : ℕ = firstBadModule (p .colours) matrix in
+    let cs : List (List ℕ) = checksFor s in
+    let w : List ℕ = receivedWord p l matrix in
+    let n : ℕ = length (repairsOf cs w) in
+    let first : ℕ = unmetCount cs w in
+    let m : List ℕ = messageBitsFor s (lastWord cs w) in
+    let net : List ℕ = take (s .net) m in
+    let d : Decoded = decode (streamIn net) in
+    let row7 : Row ReadAnswer = on (ltb bad (length matrix)) (refused 7 bad) in
+    let row8 : Row ReadAnswer = on (wrongStuffing s (receivedBits p l matrix)) (refused 8 0) in
+    let row9 : Row ReadAnswer = on (stuck cs w) (counted 9 n first) in
+    let row10 : Row ReadAnswer = on (anyOne (drop (s .net) m)) (counted 10 n first) in
+    let row11 : Row ReadAnswer = on (not (anyOne net)) (counted 11 n first) in
+    let row12 : Row ReadAnswer = on (not (eqb (d .number) 0)) (counted (d .number) n first) in
+    let row14 : Row ReadAnswer = on (ltb room (length (d .bytes))) (counted 14 n first) in
+    let zero-is : ReadAnswer = done (length (d .bytes)) n first in
+    let from14 : Q (firstOf (row14 ∷ []) zero-is) = last-row Q row14 zero-is (λ t. late 14 (omega arith) (omega arith)) (λ t. last (ltb-false room (length (d .bytes)) t)) in
+    let from12 : Q (firstOf (row12 ∷ row14 ∷ []) zero-is) = first-keeps Q row12 (row14 ∷ []) zero-is (λ t. let b : (9 ≤ d .number) × (d .number ≤ 14) = stream-number (d .number) (decode-number (streamIn net)) t in late (d .number) (b .0) (b .1)) from14 in
+    let from11 : Q (firstOf (row11 ∷ row12 ∷ row14 ∷ []) zero-is) = first-keeps Q row11 (row12 ∷ row14 ∷ []) zero-is (λ t. late 11 (omega arith) (omega arith)) from12 in
+    let from10 : Q (firstOf (row10 ∷ []) (answerFromNet net n first room)) = last-row Q row10 (answerFromNet net n first room) (λ t. late 10 (omega arith) (omega arith)) (λ t. from11) in
+    let from9 : Q (firstOf (row9 ∷ []) (answerFromAccepted s (lastWord cs w) n first room)) =
+    last-row Q row9 (answerFromAccepted s (lastWord cs w) n first room) (λ t. late 9 (omega arith) (omega arith)) (λ t. from10) in
+    let from8 : Q (firstOf (row8 ∷ []) (answerFromReceived s w room)) =
+    last-row Q row8 (answerFromReceived s w room) (λ t. early 8 0 (omega arith) (omega arith) (λ z. omega arith) (inr (inr refl))) (λ t. from9) in
+    let from7 : Q (firstOf (row7 ∷ row8 ∷ []) (answerFromReceived s w room)) =
+    first-keeps Q row7 (row8 ∷ []) (answerFromReceived s w room) (λ t. early 7 bad (omega arith) (omega arith) (λ z. omega arith) (inr (inl refl))) from8 in
+    front-keeps Q refused p l (length matrix) work (answerFromMatrix p l matrix room)
+    (λ k place low high where-zero. early k place low (omega arith) (λ z. omega arith) (⊎-elim (λ e. inl e) (λ e. inr (inr e)) where-zero)) from7
+
+-- A read answers 0 to 14 but not 6, its place is 0 but with 2 and 7, and a refusal has length 0.
+pub record ReadAnswerIs (a : ReadAnswer) : Type 0 where
+  pub number-most : a .number ≤ 14
+  pub number-not-6 : a .number ≡ 6 → ⊥
+  pub place-is : (a .number ≡ 2) ⊎ (a .number ≡ 7) ⊎ (a .place ≡ 0)
+  pub length-is : (a .number ≡ 0) ⊎ (a .length ≡ 0)
+  pub counts-are : (a .number ≡ 0) ⊎ (9 ≤ a .number) ⊎ ((a .repairs ≡ 0) × (a .unmet ≡ 0))
+
+pub read-answer : (p : Params) (l matrix : List ℕ) (work room : ℕ) → ReadAnswerIs (readAnswer p l matrix work room)
+read-answer p l matrix work room =
+    read-keeps ReadAnswerIs p l matrix work room
+    (λ k place low high no6 where-zero.
+    record { number-most = omega arith; number-not-6 = no6; place-is = where-zero; length-is = inr refl; counts-are = inr (inr (refl, refl)) })
+    (λ k low high.
+    record { number-most = high; number-not-6 = λ z. omega arith; place-is = inr (inr refl); length-is = inr refl; counts-are = inr (inl low) })
+    (λ fits.
+    record { number-most = omega arith; number-not-6 = λ z. omega arith; place-is = inr (inr refl); length-is = inl refl; counts-are = inl refl })
+
+-- On 0 the length is the message's, and the message fits in its buffer.
+pub read-length : (p : Params) (l matrix : List ℕ) (work room : ℕ)
+    → readAnswer p l matrix work room .number ≡ 0
+    → (readAnswer p l matrix work room .length ≡ length (messageIn p l matrix)) × (length (messageIn p l matrix) ≤ room)
+read-length p l matrix work room =
+    let m : ℕ = length (messageIn p l matrix) in
+    read-keeps (λ (a : ReadAnswer). a .number ≡ 0 → (a .length ≡ m) × (m ≤ room)) p l matrix work room
+    (λ k place low high no6 where-zero z. absurd (omega arith))
+    (λ k low high z. absurd (omega arith))
+    (λ fits z. (refl, fits))
+
+-- a write answers 0 to 6, and its place is 0 but with 2
+pub record WriteAnswerIs (a : Answer) : Type 0 where
+  pub number-most : a .number ≤ 6
+  pub place-is : (a .number ≡ 2) ⊎ (a .place ≡ 0)
+
+pub write-answer : (p : Params) (l message : List ℕ) (modules work : ℕ) → WriteAnswerIs (writeAnswer p l message modules work)
+unfolding writeAnswer writeTests
+write-answer p l message modules work =
+    let row6 : Row Answer = on (exceeds (length (byteStream message)) (sizesFor p l .net)) (answer 6 0) in
+    subst⁻¹ WriteAnswerIs (first-append (frontTests answer p l modules work) (row6 ∷ []) (answer 0 0))
+    (front-keeps WriteAnswerIs answer p l modules work (firstOf (row6 ∷ []) (answer 0 0))
+    (λ k place low high where-zero. record { number-most = omega arith; place-is = where-zero })
+    (first-keeps WriteAnswerIs row6 [] (answer 0 0) (λ t. record { number-most = omega arith; place-is = inr refl })
+    (subst⁻¹ WriteAnswerIs (first-none (answer 0 0)) (record { number-most = omega arith; place-is = inr refl }))))
+
+-- ---- the buffers at exit
+
+-- A refused write leaves the matrix as it came.
+pub refused-write : (p : Params) (l message matrix : List ℕ) (work : ℕ)
+    → (writeAnswer p l message (length matrix) work .number ≡ 0 → ⊥)
+    → matrixAfterWrite p l message work matrix ≡ matrix
+unfolding matrixAfterWrite
+refused-write p l message matrix work differs = rw (ne-eqb (writeAnswer p l message (length matrix) work .number) 0 differs) refl
+
+-- A refused read leaves the message buffer as it came.
+pub refused-read : (a : ReadAnswer) (message before : List ℕ) → (a .number ≡ 0 → ⊥) → messageAfter a message before ≡ before
+unfolding messageAfter
+refused-read a message before differs = rw (ne-eqb (a .number) 0 differs) refl
+
+-- A read that is done changes as many bytes as its answer's length says, the first ones; the others are as they came.
+pub done-read : (p : Params) (l matrix before : List ℕ) (work : ℕ)
+    → let a = readAnswer p l matrix work (length before) in
+    a .number ≡ 0
+    → let after = messageAfter a (messageIn p l matrix) before in
+    (length after ≡ length before) × (take (a .length) after ≡ messageIn p l matrix) × (drop (a .length) after ≡ drop (a .length) before)
+unfolding messageAfter
+done-read p l matrix before work e =
+    let a : ReadAnswer = readAnswer p l matrix work (length before) in
+    let m : List ℕ = messageIn p l matrix in
+    let end : List ℕ = drop (length m) before in
+    let long : (a .length ≡ length m) × (length m ≤ length before) = read-length p l matrix work (length before) e in
+    let after : messageAfter a m before ≡ m ++ end = rw (eq-eqb (a .number) 0 e) refl in (
+      ap length after ∙ omega (arith, length-append m end, length-drop (length m) before, long .1),
+      ap (λ (x : List ℕ). take (a .length) x) after ∙ take-at m end (a .length) (sym (long .0)),
+      ap (λ (x : List ℕ). drop (a .length) x) after ∙ drop-at m end (a .length) (sym (long .0)) ∙ ap (λ (k : ℕ). drop k before) (sym (long .0)),
+    )
+
+-- A call that passes test 5 leaves the work buffer all zero, its length as it was.
+pub work-cleared : (p : Params) (l work : List ℕ) (modules : ℕ)
+    → isLegal p l modules (length work) ≡ true
+    → workAfter p l modules work ≡ replicate (length work) 0
+unfolding workAfter
+work-cleared p l work modules e = rw e refl
+
+-- Before that it is untouched.
+pub work-untouched : (p : Params) (l work : List ℕ) (modules : ℕ)
+    → isLegal p l modules (length work) ≡ false
+    → workAfter p l modules work ≡ work
+unfolding workAfter
+work-untouched p l work modules e = rw e refl

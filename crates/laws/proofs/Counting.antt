@@ -1,0 +1,126 @@
+-- Laws of how many numbers below a bound, and how many elements of a list, pass a test.
+-- Assumes nothing.
+use Prim.Native.Nat.{ℕ, zero, suc, _+_, _*_, _/_, _<_}
+use mathlib.Core.Path.{_≡_, refl, sym, ap, _∙_}
+use mathlib.Core.Bool.{Bool, true, false, cond}
+use mathlib.Core.Logic.{∥∥₁-elim}
+use mathlib.Core.List.{List, [], _∷_, _++_, Perm, List·Permᴰ, List·Permᴰ·nil, List·Permᴰ·cons, List·Permᴰ·swap, List·Permᴰ·trans}
+use native.Mathlib.Nat.{ℕ-set, add-zero, add-suc, suc-mul, mul-add-div-right, div-eq-of-lt, div-lt-iff-lt-mul}
+use native.Mathlib.Omega.{arith}
+use native.Mathlib.Decide.{ℕ-discrete}
+use lib.Dec.{eqb}
+use lib.ListN.{length, length-append}
+use borrow.Author.Tests.{eq-eqb, ne-eqb}
+use Rattle.symbology.specs.Ranges.{tally, tabulate, those}
+
+-- ---- numbers below a bound
+
+pub number-suc : (f : ℕ → Bool) (n : ℕ) → length (those (suc n) f) ≡ length (those n f) + tally (f n)
+unfolding those
+number-suc f n = length-append (those n f) (cond (f n) (n ∷ []) []) ∙ ap (λ (k : ℕ). length (those n f) + k) (one (f n))
+  where
+    one : (b : Bool) → length (cond b (n ∷ []) []) ≡ tally b
+    one true = refl
+    one false = refl
+
+pub number-zero : (f : ℕ → Bool) → length (those 0 f) ≡ 0
+unfolding those
+number-zero f = refl
+
+pub number-ext : (f g : ℕ → Bool) (n : ℕ) → ((i : ℕ) → i < n → f i ≡ g i) → length (those n f) ≡ length (those n g)
+number-ext f g zero h = number-zero f ∙ sym (number-zero g)
+number-ext f g (suc n) h =
+    let last : tally (f n) ≡ tally (g n) = ap tally (h n (omega arith)) in
+    omega (arith, number-suc f n, number-suc g n, number-ext f g n (λ i l. h i (omega arith)))
+
+pub number-split : (f : ℕ → Bool) (m n : ℕ) → length (those (m + n) f) ≡ length (those m f) + length (those n (λ i. f (m + i)))
+number-split f m zero = ap (λ (k : ℕ). length (those k f)) (add-zero m) ∙ omega (arith, number-zero (λ i. f (m + i)))
+number-split f m (suc n) =
+    ap (λ (k : ℕ). length (those k f)) (add-suc m n)
+    ∙ omega (arith, number-suc f (m + n), number-suc (λ i. f (m + i)) n, number-split f m n)
+
+pub number-none : (f : ℕ → Bool) (n : ℕ) → ((i : ℕ) → i < n → f i ≡ false) → length (those n f) ≡ 0
+number-none f zero h = number-zero f
+number-none f (suc n) h =
+    let last : tally (f n) ≡ 0 = ap tally (h n (omega arith)) in
+    omega (arith, number-suc f n, number-none f n (λ i l. h i (omega arith)))
+
+pub number-all : (f : ℕ → Bool) (n : ℕ) → ((i : ℕ) → i < n → f i ≡ true) → length (those n f) ≡ n
+number-all f zero h = number-zero f
+number-all f (suc n) h =
+    let last : tally (f n) ≡ 1 = ap tally (h n (omega arith)) in
+    omega (arith, number-suc f n, number-all f n (λ i l. h i (omega arith)))
+
+-- one number below n is k
+pub number-one : (k n : ℕ) → k < n → length (those n (λ i. eqb k i)) ≡ 1
+number-one k zero h = absurd (omega arith)
+number-one k (suc n) h =
+    elim (ℕ-discrete k n) [
+      | yes e ↦
+          let last : tally (eqb k n) ≡ 1 = ap tally (eq-eqb k n e) in
+          let none : length (those n (λ i. eqb k i)) ≡ 0 = number-none (λ i. eqb k i) n (λ i l. ne-eqb k i (λ (s : k ≡ i). omega arith)) in
+          omega (arith, number-suc (λ i. eqb k i) n)
+      | no e ↦
+          let last : tally (eqb k n) ≡ 0 = ap tally (ne-eqb k n e) in
+          omega (arith, number-suc (λ i. eqb k i) n, number-one k n (omega arith))
+    ]
+
+-- of the numbers below t * w, w have the quotient r by w
+pub number-quotient : (w r t : ℕ) → r < t → length (those (t * w) (λ c. eqb (c / w) r)) ≡ w
+number-quotient w r zero h = absurd (omega arith)
+number-quotient w r (suc t) h =
+    let f : ℕ → Bool = λ c. eqb (c / w) r in
+    let split : length (those (suc t * w) f) ≡ length (those (t * w) f) + length (those w (λ i. f (t * w + i))) =
+    ap (λ (k : ℕ). length (those k f)) (suc-mul t w) ∙ number-split f (t * w) w in
+    elim (ℕ-discrete r t) [
+      | yes e ↦
+          let early : length (those (t * w) f) ≡ 0 = number-none f (t * w) (λ c l. ne-eqb (c / w) r (λ (s : c / w ≡ r). omega (arith, less c l))) in
+          let all : length (those w (λ i. f (t * w + i))) ≡ w =
+          number-all (λ i. f (t * w + i)) w (λ i l. eq-eqb ((t * w + i) / w) r (quotient i l ∙ sym e)) in
+          omega arith
+      | no e ↦
+          let late : length (those w (λ i. f (t * w + i))) ≡ 0 =
+          number-none (λ i. f (t * w + i)) w (λ i l. ne-eqb ((t * w + i) / w) r (λ (s : (t * w + i) / w ≡ r). omega (arith, quotient i l))) in
+          omega (arith, number-quotient w r t (omega arith))
+    ]
+  where
+    some : (w c : ℕ) → c < t * w → 0 < w
+    some zero c l = absurd (omega arith)
+    some (suc w) c l = omega arith
+
+    less : (c : ℕ) → c < t * w → c / w < t
+    less c l = div-lt-iff-lt-mul (some w c l) .1 l
+
+    quotient : (i : ℕ) → i < w → (t * w + i) / w ≡ t
+    quotient i l = mul-add-div-right (omega arith) t i ∙ ap (λ (k : ℕ). t + k) (div-eq-of-lt l) ∙ add-zero t
+
+-- ---- elements of a list
+
+module _ {A : Type 0} (f : A → Bool) where
+  -- how many elements pass the test
+  unfoldable pub count : List A → ℕ
+  count [] = 0
+  count (x ∷ xs) = tally (f x) + count xs
+
+  pub count-append : (xs ys : List A) → count (xs ++ ys) ≡ count xs + count ys
+  unfolding count
+  count-append [] ys = omega arith
+  count-append (x ∷ xs) ys = omega (arith, count-append xs ys)
+
+  count-along : {xs ys : List A} → List·Permᴰ xs ys → count xs ≡ count ys
+  unfolding count
+  count-along List·Permᴰ·nil = refl
+  count-along (List·Permᴰ·cons e d) = omega (arith, ap (λ (x : A). tally (f x)) e, count-along d)
+  count-along (List·Permᴰ·swap p q) = omega (arith, ap (λ (x : A). tally (f x)) p, ap (λ (x : A). tally (f x)) q)
+  count-along (List·Permᴰ·trans d e) = count-along d ∙ count-along e
+
+  -- As many elements of a permuted list pass.
+  pub count-perm : {xs ys : List A} → Perm xs ys → count xs ≡ count ys
+  count-perm {xs} {ys} p = ∥∥₁-elim p (ℕ-set (count xs) (count ys)) count-along
+
+  -- as many numbers below n pass at their entry of a table as entries of the table do
+  pub count-tabulate : (g : ℕ → A) (n : ℕ) → length (those n (λ i. f (g i))) ≡ count (tabulate n g)
+  unfolding count tabulate
+  count-tabulate g zero = number-zero (λ i. f (g i))
+  count-tabulate g (suc n) =
+      omega (arith, number-suc (λ i. f (g i)) n, count-append (tabulate n g) (g n ∷ []), count-tabulate g n)

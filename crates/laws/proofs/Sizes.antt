@@ -1,0 +1,66 @@
+-- What the sizes of legal symbols say of one another.
+-- Assumes nothing.
+use Prim.Native.Nat.{ℕ, _+_, _-_, _*_, _≤_, _<_}
+use mathlib.Core.Path.{_≡_, sym, ap, _∙_}
+use mathlib.Core.List.{List}
+use native.Mathlib.Nat.{mul-comm, mul-add, div-mul-le-self}
+use native.Mathlib.Omega.{arith}
+use lib.ListN.{length}
+use Rattle.symbology.specs.declared.Params.{Params}
+use Rattle.symbology.specs.declared.Sizes.{Sizes}
+use Rattle.symbology.specs.Ranges.{sumFrom}
+use Rattle.symbology.specs.Sides.{columns, rows}
+use Rattle.symbology.specs.Reserved.{entries}
+use Rattle.symbology.specs.Capacity.{bitsPerModule, dataModules, asBits, capacity, blockRows, sizesOf}
+use Rattle.symbology.specs.Placement.{columnData, sampled}
+use Rattle.symbology.specs.Tests.{sizesFor}
+use Rattle.symbology.specs.Codeword.{messageColumns}
+use Rattle.symbology.specs.Write.{matrixFor}
+use Rattle.laws.proofs.Parameters.{ranges}
+use Rattle.laws.proofs.Tests.{Legal}
+use Rattle.laws.proofs.Placement.{length-sampled}
+use Rattle.laws.proofs.DataModules.{data-count}
+use Rattle.laws.proofs.Spare.{enough-columns}
+
+-- the data modules hold the C bits of the capacity
+pub capacity-is : (p : Params) (l : List ℕ) (modules room : ℕ)
+    → Legal p l modules room
+    → bitsPerModule (p .colours) * sumFrom 0 (columns p) (columnData p l (rows p)) ≡ sizesFor p l .capacity
+unfolding asBits capacity sizesOf
+capacity-is p l modules room k =
+    let m : ℕ = bitsPerModule (p .colours) in
+    let d : ℕ = dataModules (p .kind) (p .horizontal) (p .vertical) (entries l) .0 in
+    ap (λ (x : ℕ). m * x) (data-count p l (k .in-range) (k .sound)) ∙ mul-comm m d
+
+-- every matrix gives C bits
+pub sampled-whole : (p : Params) (l matrix : List ℕ) (modules room : ℕ)
+    → Legal p l modules room
+    → length (sampled p l matrix) ≡ sizesFor p l .capacity
+sampled-whole p l matrix modules room k = length-sampled p l matrix ∙ capacity-is p l modules room k
+
+-- the codeword is no longer than the capacity
+pub gross-most : (p : Params) (l : List ℕ) → sizesFor p l .gross ≤ sizesFor p l .capacity
+unfolding sizesOf
+gross-most p l = div-mul-le-self (capacity p (entries l) .0) (p .wr)
+
+-- Pg is K and Pn together
+pub gross-parts : (p : Params) (l : List ℕ) (modules room : ℕ)
+    → Legal p l modules room
+    → sizesFor p l .net + sizesFor p l .checks ≡ sizesFor p l .gross
+unfolding sizesOf
+gross-parts p l modules room k =
+    let t : ℕ = blockRows (capacity p (entries l) .0) (p .wr) in
+    let less : p .wc < p .wr = ranges p (k .in-range) .wc-below in
+    let both : p .wr - p .wc + p .wc ≡ p .wr = omega arith in
+    sym (mul-add t (p .wr - p .wc) (p .wc)) ∙ ap (λ (x : ℕ). t * x) both
+
+-- the net bits have message columns to stand in
+pub net-fits : (p : Params) (l : List ℕ) (modules room : ℕ)
+    → Legal p l modules room
+    → let s = sizesFor p l in
+    s .net ≤ length (messageColumns (s .checks) (s .gross) (matrixFor s))
+net-fits p l modules room k =
+    let s : Sizes = sizesFor p l in
+    let parts : s .net + s .checks ≡ s .gross = gross-parts p l modules room k in
+    let all : s .gross ≤ length (messageColumns (s .checks) (s .gross) (matrixFor s)) + s .checks = enough-columns (s .checks) (s .gross) (matrixFor s) in
+    omega arith

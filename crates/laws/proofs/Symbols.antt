@@ -1,0 +1,97 @@
+-- The laws of layout and code at the sizes of every legal symbol: parameters, list and buffers that pass the tests 1 to 5.
+-- Assumes nothing.
+use Prim.Native.Nat.{ℕ, _-_, _*_, _≤_, _<_}
+use mathlib.Core.Path.{_≡_, sym, ap, _∙_}
+use mathlib.Core.List.{List, [], _++_}
+use native.Mathlib.Nat.{le-trans}
+use native.Mathlib.Omega.{arith}
+use lib.ListN.{length, getD, replicate}
+use Rattle.symbology.specs.declared.Params.{Params}
+use Rattle.symbology.specs.declared.Sizes.{Sizes}
+use Rattle.symbology.specs.Ranges.{those, sumFrom}
+use Rattle.symbology.specs.Bits.{AllBits}
+use Rattle.symbology.specs.Sides.{columns, rows}
+use Rattle.symbology.specs.Reserved.{entries}
+use Rattle.symbology.specs.Capacity.{dataModules, sizesOf}
+use Rattle.symbology.specs.Matrix.{matrixSeed, checkOf, checksOf}
+use Rattle.symbology.specs.Placement.{columnData, filled, sampled}
+use Rattle.symbology.specs.Tests.{sizesFor}
+use Rattle.symbology.specs.Write.{matrixFor, codewordFor}
+use Rattle.symbology.specs.Codeword.{messageColumns}
+use Rattle.symbology.specs.Read.{checksFor, messageBitsFor}
+use Rattle.laws.proofs.Ranges.{getD-tabulate}
+use Rattle.laws.proofs.Tests.{Legal}
+use Rattle.laws.proofs.Reserved.{sound-list}
+use Rattle.laws.proofs.DataModules.{data-count}
+use Rattle.laws.proofs.Placement.{filled-below, sampled-filled}
+use Rattle.laws.proofs.Matrix.{column-weight, check-weight}
+use Rattle.laws.proofs.Rule.{Ascending, check-ascends}
+use Rattle.laws.proofs.Sizes.{capacity-is, gross-most, net-fits}
+use Rattle.laws.proofs.Codeword.{IsCodeword, codeword-is, codeword-found, message-back}
+
+module _ (p : Params) (l : List ℕ) (modules room : ℕ) (legal : Legal p l modules room) where
+  -- ---- layout
+
+  -- The modules that are neither pattern nor entry number exactly D.
+  pub symbol-modules : sumFrom 0 (columns p) (columnData p l (rows p)) ≡ dataModules (p .kind) (p .horizontal) (p .vertical) (entries l) .0
+  symbol-modules = data-count p l (legal .in-range) (legal .sound)
+
+  -- Sampling what was filled with the C bits of the capacity gives them back.
+  pub symbol-back : (bs : List ℕ) → AllBits bs → length bs ≡ sizesFor p l .capacity → sampled p l (filled p l bs) ≡ bs
+  symbol-back bs bits long = sampled-filled p l bs bits (long ∙ sym (capacity-is p l modules room legal))
+
+  -- Every module filled is below N.
+  pub symbol-below : (bs : List ℕ) (i : ℕ) → i < rows p * columns p → getD (filled p l bs) i 0 < p .colours
+  symbol-below bs = filled-below p l bs (legal .in-range) (λ k h. sound-list p l (legal .sound) .entry k h .colour-below)
+
+  -- ---- the check matrix
+
+  -- Each column of A stands in exactly wc checks.
+  pub symbol-columns : (j : ℕ) → j < sizesFor p l .gross → length (those (sizesFor p l .checks) (λ i. matrixFor (sizesFor p l) i j)) ≡ p .wc
+  unfolding sizesOf
+  symbol-columns j h = column-weight matrixSeed (sizesFor p l .block) (p .wr) (p .wc) j h
+
+  -- Each check names wr columns,
+  pub symbol-checks : (i : ℕ) → i < sizesFor p l .checks → length (getD (checksFor (sizesFor p l)) i []) ≡ p .wr
+  unfolding sizesOf checksFor checksOf
+  symbol-checks i h =
+      let s : Sizes = sizesFor p l in
+      ap length (getD-tabulate (s .checks) (checkOf (s .gross) (matrixFor s)) [] i h)
+      ∙ check-weight matrixSeed (s .block) (p .wr) (p .wc) i (le-trans (gross-most p l) (legal .most)) h
+
+  -- in ascending order, so that no two are the same.
+  pub symbol-ascends : (i : ℕ) → i < sizesFor p l .checks → Ascending (getD (checksFor (sizesFor p l)) i [])
+  unfolding checksFor checksOf
+  symbol-ascends i h =
+      let s : Sizes = sizesFor p l in
+      rw (getD-tabulate (s .checks) (checkOf (s .gross) (matrixFor s)) [] i h) (check-ascends (s .gross) (matrixFor s) i)
+
+  -- ---- the codeword
+
+  -- The codeword of net bits has Pg bits, carries them in the message columns and meets every check;
+  pub symbol-codeword : (net : List ℕ)
+      → AllBits net
+      → IsCodeword (sizesFor p l .checks) (sizesFor p l .gross) (matrixFor (sizesFor p l)) net (codewordFor (sizesFor p l) net)
+  unfolding codewordFor
+  symbol-codeword net bits = codeword-is (sizesFor p l .checks) (sizesFor p l .gross) (matrixFor (sizesFor p l)) net bits
+
+  -- it is the only such word;
+  pub symbol-only : (net w : List ℕ)
+      → IsCodeword (sizesFor p l .checks) (sizesFor p l .gross) (matrixFor (sizesFor p l)) net w
+      → codewordFor (sizesFor p l) net ≡ w
+  unfolding codewordFor
+  symbol-only net w is = codeword-found is
+
+  -- and Pn net bits are read back from its message columns, with 0 in the spare ones.
+  pub symbol-message : (net : List ℕ)
+      → AllBits net
+      → length net ≡ sizesFor p l .net
+      → let s = sizesFor p l in
+      messageBitsFor s (codewordFor s net) ≡ net ++ replicate (length (messageColumns (s .checks) (s .gross) (matrixFor s)) - s .net) 0
+  unfolding codewordFor messageBitsFor
+  symbol-message net bits long =
+      let s : Sizes = sizesFor p l in
+      let columns : List ℕ = messageColumns (s .checks) (s .gross) (matrixFor s) in
+      let fits : length net ≤ length columns = omega (arith, long, net-fits p l modules room legal) in
+      message-back (s .checks) (s .gross) (matrixFor s) net bits fits
+      ∙ ap (λ (n : ℕ). net ++ replicate (length columns - n) 0) long

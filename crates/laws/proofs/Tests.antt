@@ -1,0 +1,186 @@
+-- Laws of tables of tests, and what the tests 1 to 5 say of parameters, list and buffers that pass them.
+-- Assumes nothing.
+use Prim.Native.Nat.{ℕ, zero, suc, _*_, _≤_, _<_}
+use mathlib.Core.Path.{_≡_, refl, ap, _∙_, subst⁻¹}
+use mathlib.Core.Bool.{Bool, true, false, cond, not, _||_}
+use mathlib.Core.Logic.{_⊎_, inl, inr}
+use mathlib.Core.List.{List, [], _∷_, _++_}
+use native.Mathlib.Nat.{le-of-suc-le-suc}
+use native.Mathlib.Omega.{arith}
+use lib.Dec.{eqb, ltb}
+use lib.ListN.{length, getD}
+use borrow.Author.Tests.{ltb-false, eqb-true, not-false, le-ltb, eq-eqb}
+use Rattle.symbology.specs.declared.Params.{Params}
+use Rattle.symbology.specs.declared.Sizes.{Sizes}
+use Rattle.symbology.specs.declared.Answer.{Answer}
+use Rattle.symbology.specs.declared.ListVerdict.{ListVerdict}
+use Rattle.symbology.specs.declared.ListVerdict.the-variants.{Sound, Fault}
+use Rattle.symbology.specs.Parameters.{inRange}
+use Rattle.symbology.specs.Reserved.{listVerdict, listNumber, listPlace}
+use Rattle.symbology.specs.Tests.{Row, on, firstOf, sizesFor, sizeTests, bufferTests, frontTests}
+use Rattle.symbology.specs.Write.{answer, isLegal}
+use Rattle.laws.proofs.Ranges.{clash, or-left, or-right}
+
+-- ---- tables
+
+module _ {A : Type 0} where
+  -- the first row's test holds: its answer
+  pub first-hit : (r : Row A) (rs : List (Row A)) (d : A) → r .test ≡ true → firstOf (r ∷ rs) d ≡ r .gives
+  unfolding firstOf
+  first-hit r rs d e = rw e refl
+
+  -- it fails: the answer of the other rows
+  pub first-miss : (r : Row A) (rs : List (Row A)) (d : A) → r .test ≡ false → firstOf (r ∷ rs) d ≡ firstOf rs d
+  unfolding firstOf
+  first-miss r rs d e = rw e refl
+
+  -- no row is left
+  pub first-none : (d : A) → firstOf [] d ≡ d
+  unfolding firstOf
+  first-none d = refl
+
+  pub first-append : (rs ss : List (Row A)) (d : A) → firstOf (rs ++ ss) d ≡ firstOf rs (firstOf ss d)
+  unfolding firstOf
+  first-append [] ss d = refl
+  first-append (r ∷ rs) ss d = ap (λ (x : A). cond (r .test) (r .gives) x) (first-append rs ss d)
+
+  -- A row's answer is given exactly where its test holds and no test before it does,
+  pub first-given : (rs : List (Row A)) (d : A) (z : Row A) (i : ℕ)
+      → i < length rs
+      → getD rs i z .test ≡ true
+      → ((j : ℕ) → j < i → getD rs j z .test ≡ false)
+      → firstOf rs d ≡ getD rs i z .gives
+  first-given [] d z i h holds none = absurd (omega arith)
+  first-given (r ∷ rs) d z zero h holds none = first-hit r rs d holds
+  first-given (r ∷ rs) d z (suc i) h holds none =
+      first-miss r rs d (none 0 (omega arith)) ∙ first-given rs d z i (le-of-suc-le-suc h) holds (λ j k. none (suc j) (omega arith))
+
+  -- and the last answer where no test holds.
+  pub first-other : (rs : List (Row A)) (d : A) (z : Row A) → ((j : ℕ) → j < length rs → getD rs j z .test ≡ false) → firstOf rs d ≡ d
+  first-other [] d z none = first-none d
+  first-other (r ∷ rs) d z none =
+      first-miss r rs d (none 0 (omega arith)) ∙ first-other rs d z (λ j k. none (suc j) (omega arith))
+
+  -- an answer that the first row does not give comes from the other rows, and the first row's test fails
+  pub first-beyond : (P : A → Type 0) (r : Row A) (rs : List (Row A)) (d : A)
+      → (P (r .gives) → ⊥)
+      → P (firstOf (r ∷ rs) d)
+      → (r .test ≡ false) × P (firstOf rs d)
+  unfolding firstOf
+  first-beyond P r rs d no-first given = go (r .test) given
+    where
+      go : (t : Bool) → P (cond t (r .gives) (firstOf rs d)) → (t ≡ false) × P (firstOf rs d)
+      go true g = absurd (no-first g)
+      go false g = (refl, g)
+
+  -- what a row's answer has where its test holds, and the answer of the other rows has, the table's answer has
+  pub first-keeps : (Q : A → Type 0) (r : Row A) (rs : List (Row A)) (d : A)
+      → (r .test ≡ true → Q (r .gives))
+      → Q (firstOf rs d)
+      → Q (firstOf (r ∷ rs) d)
+  unfolding firstOf
+  first-keeps Q r rs d first others = go (r .test) first
+    where
+      go : (t : Bool) → (t ≡ true → Q (r .gives)) → Q (cond t (r .gives) (firstOf rs d))
+      go true f = f refl
+      go false f = others
+
+-- ---- the tests 1 to 5
+
+-- parameters, list and buffers that are legal, one fact for each test
+pub record Legal (p : Params) (l : List ℕ) (modules room : ℕ) : Type 0 where
+  pub in-range : inRange p ≡ true
+  pub sound : listVerdict p l ≡ Sound
+  pub least : p .wr ≤ sizesFor p l .capacity
+  pub most : sizesFor p l .capacity ≤ 4096
+  pub whole : modules ≡ sizesFor p l .columns * sizesFor p l .rows
+  pub enough : sizesFor p l .work ≤ room
+
+verdict-sound : (v : ListVerdict) → eqb (listNumber v) 2 ≡ false → v ≡ Sound
+unfolding listNumber
+verdict-sound Sound e = refl
+verdict-sound (Fault k) e = clash refl e
+
+sound-verdict : (v : ListVerdict) → v ≡ Sound → eqb (listNumber v) 2 ≡ false
+unfolding listNumber
+sound-verdict v e = rw e refl
+
+-- Where an answer has the number 0, none of the tests 1 to 5 gave it: what it was given for is legal, and the answer is the one
+-- behind them. `number` is the number of an answer.
+pub front-legal : {A : Type 0} (refusal : ℕ → ℕ → A) (number : A → ℕ) (p : Params) (l : List ℕ) (modules room : ℕ) (d : A)
+    → ((n place : ℕ) → number (refusal n place) ≡ n)
+    → number (firstOf (frontTests refusal p l modules room) d) ≡ 0
+    → Legal p l modules room × (number d ≡ 0)
+unfolding firstOf sizeTests bufferTests frontTests
+front-legal {A} refusal number p l modules room d gives e =
+    let s : Sizes = sizesFor p l in
+    let c : ℕ = s .capacity in
+    let v : ListVerdict = listVerdict p l in
+    let P : A → Type 0 = λ a. number a ≡ 0 in
+    let row1 : Row A = on (not (inRange p)) (refusal 1 0) in
+    let row2 : Row A = on (eqb (listNumber v) 2) (refusal 2 (listPlace v)) in
+    let row3 : Row A = on (ltb c (p .wr) || ltb 4096 c) (refusal 3 0) in
+    let row4 : Row A = on (not (eqb modules (s .columns * s .rows))) (refusal 4 0) in
+    let row5 : Row A = on (ltb room (s .work)) (refusal 5 0) in
+    let from5 : List (Row A) = row5 ∷ [] in
+    let from4 : List (Row A) = row4 ∷ from5 in
+    let from3 : List (Row A) = row3 ∷ from4 in
+    let from2 : List (Row A) = row2 ∷ from3 in
+    let at1 : (row1 .test ≡ false) × P (firstOf from2 d) = first-beyond P row1 from2 d (λ z. omega (arith, gives 1 0)) e in
+    let at2 : (row2 .test ≡ false) × P (firstOf from3 d) = first-beyond P row2 from3 d (λ z. omega (arith, gives 2 (listPlace v))) (at1 .1) in
+    let at3 : (row3 .test ≡ false) × P (firstOf from4 d) = first-beyond P row3 from4 d (λ z. omega (arith, gives 3 0)) (at2 .1) in
+    let at4 : (row4 .test ≡ false) × P (firstOf from5 d) = first-beyond P row4 from5 d (λ z. omega (arith, gives 4 0)) (at3 .1) in
+    let at5 : (row5 .test ≡ false) × P (firstOf [] d) = first-beyond P row5 [] d (λ z. omega (arith, gives 5 0)) (at4 .1) in
+    let k : Legal p l modules room = record {
+      in-range = not-false (inRange p) (at1 .0);
+      sound = verdict-sound v (at2 .0);
+      least = ltb-false c (p .wr) (or-left (ltb c (p .wr)) (ltb 4096 c) (at3 .0));
+      most = ltb-false 4096 c (or-right (ltb c (p .wr)) (ltb 4096 c) (at3 .0));
+      whole = eqb-true modules (s .columns * s .rows) (not-false (eqb modules (s .columns * s .rows)) (at4 .0));
+      enough = ltb-false room (s .work) (at5 .0);
+    } in
+    (k, at5 .1)
+
+-- legal input passes each of the tests 1 to 5
+pub legal : (p : Params) (l : List ℕ) (modules room : ℕ) → isLegal p l modules room ≡ true → Legal p l modules room
+unfolding isLegal
+legal p l modules room e =
+    let d : Answer = answer 0 0 in
+    let passed : firstOf (frontTests answer p l modules room) d .number ≡ 0 = eqb-true (firstOf (frontTests answer p l modules room) d .number) 0 e in
+    front-legal answer (λ (a : Answer). a .number) p l modules room d (λ n place. refl) passed .0
+
+-- the tests 1 to 5 refuse no legal input, whatever follows them
+pub front-passed : {A : Type 0} (refusal : ℕ → ℕ → A) (p : Params) (l : List ℕ) (modules room : ℕ) (d : A)
+    → Legal p l modules room
+    → firstOf (frontTests refusal p l modules room) d ≡ d
+unfolding firstOf sizeTests bufferTests frontTests
+front-passed refusal p l modules room d k =
+    let s : Sizes = sizesFor p l in
+    let c : ℕ = s .capacity in
+    rw (k .in-range, sound-verdict (listVerdict p l) (k .sound), le-ltb c (p .wr) (k .least), le-ltb 4096 c (k .most), eq-eqb modules (s .columns * s .rows) (k .whole), le-ltb room (s .work) (k .enough))
+
+-- what passes each of the tests 1 to 5 is legal
+pub legal-is : (p : Params) (l : List ℕ) (modules room : ℕ) → Legal p l modules room → isLegal p l modules room ≡ true
+unfolding isLegal
+legal-is p l modules room k = ap (λ (a : Answer). eqb (a .number) 0) (front-passed answer p l modules room (answer 0 0) k)
+
+-- what every refusal of the tests 1 to 5 has, and the answer behind them, the whole table's answer has
+pub front-keeps : {A : Type 0} (Q : A → Type 0) (refusal : ℕ → ℕ → A) (p : Params) (l : List ℕ) (modules room : ℕ) (d : A)
+    → ((n place : ℕ) → 1 ≤ n → n ≤ 5 → (n ≡ 2) ⊎ (place ≡ 0) → Q (refusal n place))
+    → Q d
+    → Q (firstOf (frontTests refusal p l modules room) d)
+unfolding sizeTests bufferTests frontTests
+front-keeps {A} Q refusal p l modules room d each behind =
+    let s : Sizes = sizesFor p l in
+    let c : ℕ = s .capacity in
+    let v : ListVerdict = listVerdict p l in
+    let row1 : Row A = on (not (inRange p)) (refusal 1 0) in
+    let row2 : Row A = on (eqb (listNumber v) 2) (refusal 2 (listPlace v)) in
+    let row3 : Row A = on (ltb c (p .wr) || ltb 4096 c) (refusal 3 0) in
+    let row4 : Row A = on (not (eqb modules (s .columns * s .rows))) (refusal 4 0) in
+    let row5 : Row A = on (ltb room (s .work)) (refusal 5 0) in
+    first-keeps Q row1 (row2 ∷ row3 ∷ row4 ∷ row5 ∷ []) d (λ t. each 1 0 (omega arith) (omega arith) (inr refl))
+    (first-keeps Q row2 (row3 ∷ row4 ∷ row5 ∷ []) d (λ t. each 2 (listPlace v) (omega arith) (omega arith) (inl refl))
+    (first-keeps Q row3 (row4 ∷ row5 ∷ []) d (λ t. each 3 0 (omega arith) (omega arith) (inr refl))
+    (first-keeps Q row4 (row5 ∷ []) d (λ t. each 4 0 (omega arith) (omega arith) (inr refl))
+    (first-keeps Q row5 [] d (λ t. each 5 0 (omega arith) (omega arith) (inr refl)) (subst⁻¹ Q (first-none d) behind)))))
