@@ -40,6 +40,7 @@ pub mod Tests
 pub mod Sizes
 pub mod Symbols
 pub mod Answers
+pub mod Stages
 pub mod RoundTrip
 pub mod Mending
 -- whole symbols, computed

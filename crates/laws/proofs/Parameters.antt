@@ -6,12 +6,12 @@ use mathlib.Core.Bool.{Bool, true, false, not, _||_}
 use mathlib.Core.Logic.{_⊎_, inl, inr}
 use mathlib.Core.List.{List, [], _∷_}
 use native.Mathlib.Omega.{arith}
-use lib.Dec.{eqb, leb, ltb}
+use lib.Dec.{eqb, leb}
 use lib.ListN.{getD}
 use borrow.Author.Tests.{leb-true, ltb-true, eqb-true, eqb-false, not-true}
 use Rattle.symbology.specs.declared.Params.{Params}
 use Rattle.symbology.specs.Ranges.{within, allHold, lowest}
-use Rattle.symbology.specs.Parameters.{inRange}
+use Rattle.symbology.specs.Parameters.{rangeTests, inRange}
 use Rattle.symbology.specs.Capacity.{bitsPerModule}
 use Rattle.laws.proofs.Ranges.{and-left, and-right}
 
@@ -61,25 +61,9 @@ different a b e = eqb-false a b (not-true (eqb a b) e)
 
 -- parameters that pass test 1 are in their ranges
 pub ranges : (p : Params) → inRange p ≡ true → InRange p
-unfolding inRange
+unfolding rangeTests inRange
 ranges p e =
-    let tests : List Bool = within 0 1 (p .kind)
-    ∷ within 1 32 (p .horizontal)
-    ∷ within 1 32 (p .vertical)
-    ∷ (eqb (p .colours) 4 || eqb (p .colours) 8)
-    ∷ ltb (p .black) (p .colours)
-    ∷ ltb (p .cyan) (p .colours)
-    ∷ ltb (p .yellow) (p .colours)
-    ∷ not (eqb (p .black) (p .cyan))
-    ∷ not (eqb (p .black) (p .yellow))
-    ∷ not (eqb (p .cyan) (p .yellow))
-    ∷ within 3 8 (p .wc)
-    ∷ within 4 9 (p .wr)
-    ∷ ltb (p .wc) (p .wr)
-    ∷ within 0 7 (p .mask)
-    ∷ within 0 1 (p .turn)
-    ∷ [] in
-    let each : (i : ℕ) → getD tests i true ≡ true = at-each tests e in
+    let each : (i : ℕ) → getD (rangeTests p) i true ≡ true = at-each (rangeTests p) e in
     record {
       kind-most = within-high 0 1 (p .kind) (each 0);
       horizontal-least = within-low 1 32 (p .horizontal) (each 1);

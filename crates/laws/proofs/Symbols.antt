@@ -17,6 +17,7 @@ use Rattle.symbology.specs.Matrix.{matrixSeed, checkOf, checksOf}
 use Rattle.symbology.specs.Placement.{columnData, filled, sampled}
 use Rattle.symbology.specs.Tests.{sizesFor}
 use Rattle.symbology.specs.Write.{matrixFor, codewordFor}
+use Rattle.symbology.specs.Rule.{unmetCount}
 use Rattle.symbology.specs.Codeword.{messageColumns}
 use Rattle.symbology.specs.Read.{checksFor, messageBitsFor}
 use Rattle.laws.proofs.Ranges.{getD-tabulate}
@@ -74,6 +75,15 @@ module _ (p : Params) (l : List ℕ) (modules room : ℕ) (legal : Legal p l mod
       → IsCodeword (sizesFor p l .checks) (sizesFor p l .gross) (matrixFor (sizesFor p l)) net (codewordFor (sizesFor p l) net)
   unfolding codewordFor
   symbol-codeword net bits = codeword-is (sizesFor p l .checks) (sizesFor p l .gross) (matrixFor (sizesFor p l)) net bits
+
+  -- in other words, it has Pg bits
+  pub symbol-wide : (net : List ℕ) → AllBits net → length (codewordFor (sizesFor p l) net) ≡ sizesFor p l .gross
+  symbol-wide net bits = symbol-codeword net bits .wide
+
+  -- and leaves no check unmet;
+  pub symbol-meets : (net : List ℕ) → AllBits net → unmetCount (checksFor (sizesFor p l)) (codewordFor (sizesFor p l) net) ≡ 0
+  unfolding checksFor
+  symbol-meets net bits = symbol-codeword net bits .met
 
   -- it is the only such word;
   pub symbol-only : (net w : List ℕ)

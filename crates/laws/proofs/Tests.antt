@@ -19,7 +19,7 @@ use Rattle.symbology.specs.Parameters.{inRange}
 use Rattle.symbology.specs.Reserved.{listVerdict, listNumber, listPlace}
 use Rattle.symbology.specs.Tests.{Row, on, firstOf, sizesFor, sizeTests, bufferTests, frontTests}
 use Rattle.symbology.specs.Write.{answer, isLegal}
-use Rattle.laws.proofs.Ranges.{clash, or-left, or-right}
+use Rattle.laws.proofs.Ranges.{by, clash, or-left, or-right}
 
 -- ---- tables
 
@@ -72,6 +72,17 @@ module _ {A : Type 0} where
       go : (t : Bool) → P (cond t (r .gives) (firstOf rs d)) → (t ≡ false) × P (firstOf rs d)
       go true g = absurd (no-first g)
       go false g = (refl, g)
+
+  -- a table gives either the last answer, whatever that is, or an answer that does not depend on it
+  pub first-either : (rs : List (Row A)) → ((d : A) → firstOf rs d ≡ d) ⊎ ((a : A) × ((d : A) → firstOf rs d ≡ a))
+  first-either [] = inl (λ d. first-none d)
+  first-either (r ∷ rs) = by (r .test) (λ e. inr (r .gives, λ d. first-hit r rs d e)) (λ e. go e (first-either rs))
+    where
+      go : r .test ≡ false
+          → ((d : A) → firstOf rs d ≡ d) ⊎ ((a : A) × ((d : A) → firstOf rs d ≡ a))
+          → ((d : A) → firstOf (r ∷ rs) d ≡ d) ⊎ ((a : A) × ((d : A) → firstOf (r ∷ rs) d ≡ a))
+      go e (inl all) = inl (λ d. first-miss r rs d e ∙ all d)
+      go e (inr one) = inr (one .0, λ d. first-miss r rs d e ∙ one .1 d)
 
   -- what a row's answer has where its test holds, and the answer of the other rows has, the table's answer has
   pub first-keeps : (Q : A → Type 0) (r : Row A) (rs : List (Row A)) (d : A)

@@ -15,7 +15,7 @@ use Rattle.symbology.specs.declared.Sizes.{Sizes}
 use Rattle.symbology.specs.declared.ReadAnswer.{ReadAnswer}
 use Rattle.symbology.specs.Ranges.{sumFrom, joinFrom, tabulate, those, lowest, has, allBelow, allHold}
 use Rattle.symbology.specs.Bits.{value, bits, anyOne}
-use Rattle.symbology.specs.Parameters.{inRange}
+use Rattle.symbology.specs.Parameters.{rangeTests, inRange}
 use Rattle.symbology.specs.Sides.{coreTable, coresOf, innerPatterns}
 use Rattle.symbology.specs.Patterns.{nearCore, finder, patternOf, inSquares, colourIn, meeting, patternAt, covered, patternColour}
 use Rattle.symbology.specs.Reserved.{entryAt, firstEntry, badEntry, badAt, entryVerdict, listVerdict, listNumber, listPlace}
@@ -95,7 +95,7 @@ matrix : ℕ → ℕ → ℕ → List ℕ
 matrix a b c = set (set (set (replicate 441 0) 0 a) 198 b) 419 c
 
 read : List ℕ → ReadAnswer
-unfolding written bits anyOne allHold inRange badEntry badAt entryVerdict listVerdict listNumber listPlace unshuffledFirst unshuffled unmetAt metAt isSuspect suspect turned ends repairs afterTurns repairsOf lastWord stuck messageBits modeWidth codeWidth endNumber readCode readCodes decode upToLastOne streamIn cellBits bitsAt sampled firstBadModule firstOf sizeTests bufferTests frontTests receivedBits sameBits wrongStuffing checksFor messageBitsFor answerFromNet answerFromAccepted answerFromReceived answerFromMatrix readAnswer
+unfolding written bits anyOne allHold rangeTests inRange badEntry badAt entryVerdict listVerdict listNumber listPlace unshuffledFirst unshuffled unmetAt metAt isSuspect suspect turned ends repairs afterTurns repairsOf lastWord stuck messageBits modeWidth codeWidth endNumber readCode readCodes decode upToLastOne streamIn cellBits bitsAt sampled firstBadModule firstOf sizeTests bufferTests frontTests receivedBits sameBits wrongStuffing checksFor messageBitsFor answerFromNet answerFromAccepted answerFromReceived answerFromMatrix readAnswer
 read matrix =
     let l = reserved in
     let m = matrix in

@@ -9,7 +9,7 @@ use lib.Ieee.{mul, div, ofInt, toUnsigned}
 use Rattle.symbology.specs.declared.Params.{Params}
 use Rattle.symbology.specs.Ranges.{allHold, lowest, tabulate, has, joinFrom}
 use Rattle.symbology.specs.Bits.{value, bits, anyOne}
-use Rattle.symbology.specs.Parameters.{inRange}
+use Rattle.symbology.specs.Parameters.{rangeTests, inRange}
 use Rattle.symbology.specs.Sides.{sideSize, coreTable, coresOf, innerPatterns}
 use Rattle.symbology.specs.Patterns.{nearCore, finder, patternOf, inSquares, colourIn, meeting, patternAt, covered, patternColour}
 use Rattle.symbology.specs.Reserved.{listVerdict, entryVerdict, listNumber, listPlace, entryAt, firstEntry, badEntry, badAt}
@@ -119,5 +119,5 @@ points =
     ∷ []
 
 pub all-points : T (allHold points)
-unfolding allHold lowest tabulate has value bits anyOne inRange coreTable coresOf innerPatterns listVerdict entryVerdict listNumber listPlace bitsPerModule patternModules dataModules asBits capacity sizesOf scaled rawPlace placeOf mul div ofInt toUnsigned bitSum unmet unmetCount unmetAt metAt isSuspect suspect turned ends repairs afterTurns repairsOf lastWord stuck modeWidth codeWidth endNumber readCode readCodes decode byteRuns byteStream upToLastOne streamIn stuffing firstOf sizeTests bufferTests frontTests writeTests writeAnswer sameBits answerFromNet readAnswer joinFrom nearCore finder patternOf inSquares colourIn meeting patternAt covered patternColour entryAt firstEntry badEntry badAt withEndMark byteBits runCount byteRun
+unfolding allHold lowest tabulate has value bits anyOne rangeTests inRange coreTable coresOf innerPatterns listVerdict entryVerdict listNumber listPlace bitsPerModule patternModules dataModules asBits capacity sizesOf scaled rawPlace placeOf mul div ofInt toUnsigned bitSum unmet unmetCount unmetAt metAt isSuspect suspect turned ends repairs afterTurns repairsOf lastWord stuck modeWidth codeWidth endNumber readCode readCodes decode byteRuns byteStream upToLastOne streamIn stuffing firstOf sizeTests bufferTests frontTests writeTests writeAnswer sameBits answerFromNet readAnswer joinFrom nearCore finder patternOf inSquares colourIn meeting patternAt covered patternColour entryAt firstEntry badEntry badAt withEndMark byteBits runCount byteRun
 all-points = tt

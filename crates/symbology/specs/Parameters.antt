@@ -1,16 +1,15 @@
 -- Document 01, "What the library takes in hand": the range of each parameter. Outside it the answer is 1.
 -- Assumes nothing.
 use mathlib.Core.Bool.{Bool, not, _||_}
-use mathlib.Core.List.{[], _∷_}
+use mathlib.Core.List.{List, [], _∷_}
 use lib.Dec.{ltb, eqb}
 use Rattle.symbology.specs.declared.Params.{Params}
 use Rattle.symbology.specs.Ranges.{within, allHold}
 
--- Each parameter is in its range: kind 0 is a primary symbol, 1 a secondary one.
-unfoldable pub inRange : Params → Bool
-inRange p =
-    allHold
-    (within 0 1 (p .kind)
+-- the range of each parameter, one test after the other; kind 0 is a primary symbol, 1 a secondary one
+unfoldable pub rangeTests : Params → List Bool
+rangeTests p =
+    within 0 1 (p .kind)
     ∷ within 1 32 (p .horizontal)
     ∷ within 1 32 (p .vertical)
     ∷ (eqb (p .colours) 4 || eqb (p .colours) 8)
@@ -25,4 +24,8 @@ inRange p =
     ∷ ltb (p .wc) (p .wr)
     ∷ within 0 7 (p .mask)
     ∷ within 0 1 (p .turn)
-    ∷ [])
+    ∷ []
+
+-- each parameter is in its range
+unfoldable pub inRange : Params → Bool
+inRange p = allHold (rangeTests p)

@@ -1,0 +1,213 @@
+-- What each stage of a read hands on, and the answers of the stages behind the checks: from the matrix, from the received word, from
+-- the accepted word, from the net bits.
+-- Assumes nothing.
+use Prim.Native.Nat.{ℕ, _-_, _≤_, _<_}
+use mathlib.Core.Path.{_≡_, refl, sym, ap, _∙_, subst⁻¹}
+use mathlib.Core.Bool.{true, false, not}
+use mathlib.Core.Logic.{_⊎_, inl, inr, ⊎-elim}
+use mathlib.Core.List.{List, [], _∷_, _++_}
+use native.Mathlib.Omega.{arith}
+use lib.Dec.{eqb, ltb}
+use lib.ListN.{length, take, drop, replicate}
+use lib.Seq.{take-at, drop-at}
+use borrow.Author.Tests.{eq-eqb, eqb-true, eqb-false, le-ltb}
+use Rattle.symbology.specs.declared.Params.{Params}
+use Rattle.symbology.specs.declared.Sizes.{Sizes}
+use Rattle.symbology.specs.declared.ReadAnswer.{ReadAnswer}
+use Rattle.symbology.specs.Bits.{AllBytes, anyOne}
+use Rattle.symbology.specs.Rule.{unmetCount, repairsOf, lastWord, stuck}
+use Rattle.symbology.specs.Stream.{Decoded, decode, byteStream}
+use Rattle.symbology.specs.Net.{withEndMark, streamIn, stuffing}
+use Rattle.symbology.specs.Placement.{firstBadModule}
+use Rattle.symbology.specs.Tests.{Row, on, firstOf, frontTests, sizesFor}
+use Rattle.symbology.specs.Read.{refused, counted, done, receivedBits, receivedWord, sameBits, wrongStuffing, checksFor, messageBitsFor, answerFromNet, answerFromAccepted, answerFromReceived, answerFromMatrix, readAnswer, testsBeforeChecks, reachesChecks, messageInAccepted}
+use Rattle.laws.proofs.Tests.{Legal, front-legal, front-passed, first-miss, first-none, first-append, first-beyond, first-either, first-keeps, front-keeps}
+use Rattle.laws.proofs.Ranges.{by}
+use Rattle.laws.proofs.Stream.{decode-number}
+use Rattle.laws.proofs.ByteMode.{stream-back}
+use Rattle.laws.proofs.Net.{net-back, length-net, net-some, any-zeros}
+
+-- ---- from the net bits
+
+-- net bits that hold a message's stream give the message
+pub from-net : (n : ℕ) (message : List ℕ) (repairs unmet room : ℕ)
+    → AllBytes message
+    → length message ≤ room
+    → answerFromNet (withEndMark n (byteStream message)) repairs unmet room ≡ done (length message) repairs unmet
+unfolding answerFromNet firstOf
+from-net n message repairs unmet room bytes fits =
+    let stream : List ℕ = byteStream message in
+    let back : decode (streamIn (withEndMark n stream)) ≡ record { number = 0; bytes = message } = ap decode (net-back n stream) ∙ stream-back message bytes in
+    rw (net-some n stream, back, le-ltb room (length message) fits)
+
+-- The counts are those of the mending, and the number is not 9.
+abbrev pub Carries : ℕ → ℕ → ReadAnswer → Type 0
+Carries repairs unmet a = (a .repairs ≡ repairs) × (a .unmet ≡ unmet) × (a .number ≡ 9 → ⊥)
+
+pub net-carries : (net : List ℕ) (repairs unmet room : ℕ) → Carries repairs unmet (answerFromNet net repairs unmet room)
+unfolding answerFromNet firstOf
+net-carries net repairs unmet room =
+    let d : Decoded = decode (streamIn net) in
+    let Q : ReadAnswer → Type 0 = Carries repairs unmet in
+    let last : ReadAnswer = done (length (d .bytes)) repairs unmet in
+    let row11 : Row ReadAnswer = on (not (anyOne net)) (counted 11 repairs unmet) in
+    let row12 : Row ReadAnswer = on (not (eqb (d .number) 0)) (counted (d .number) repairs unmet) in
+    let row14 : Row ReadAnswer = on (ltb room (length (d .bytes))) (counted 14 repairs unmet) in
+    first-keeps Q row11 (row12 ∷ row14 ∷ []) last (λ e. (refl, refl, λ z. omega arith))
+    (first-keeps Q row12 (row14 ∷ []) last (λ e. (refl, refl, not-nine (d .number) (decode-number (streamIn net))))
+    (first-keeps Q row14 [] last (λ e. (refl, refl, λ z. omega arith)) (refl, refl, λ z. omega arith)))
+  where
+    not-nine : (n : ℕ) → (n ≡ 0) ⊎ (n ≡ 12) ⊎ (n ≡ 13) → n ≡ 9 → ⊥
+    not-nine n (inl e) z = omega arith
+    not-nine n (inr (inl e)) z = omega arith
+    not-nine n (inr (inr e)) z = omega arith
+
+-- ---- from the accepted word
+
+-- a word whose message columns hold net bits, and 0 in the spare ones
+pub from-accepted : (s : Sizes) (w net : List ℕ) (spare repairs unmet room : ℕ)
+    → length net ≡ s .net
+    → messageBitsFor s w ≡ net ++ replicate spare 0
+    → answerFromAccepted s w repairs unmet room ≡ answerFromNet net repairs unmet room
+unfolding answerFromAccepted firstOf
+from-accepted s w net spare repairs unmet room long holds =
+    let front : take (s .net) (messageBitsFor s w) ≡ net = ap (take (s .net)) holds ∙ take-at net (replicate spare 0) (s .net) long in
+    let behind : drop (s .net) (messageBitsFor s w) ≡ replicate spare 0 = ap (drop (s .net)) holds ∙ drop-at net (replicate spare 0) (s .net) long in
+    rw (front, behind, any-zeros spare)
+
+-- the bytes of a word whose message columns hold a message's net bits
+pub accepted-bytes : (s : Sizes) (w message : List ℕ) (spare : ℕ)
+    → AllBytes message
+    → length (byteStream message) < s .net
+    → messageBitsFor s w ≡ withEndMark (s .net) (byteStream message) ++ replicate spare 0
+    → messageInAccepted s w ≡ message
+unfolding messageInAccepted
+accepted-bytes s w message spare bytes fits holds =
+    let stream : List ℕ = byteStream message in
+    let net : List ℕ = withEndMark (s .net) stream in
+    let long : length net ≡ s .net = length-net (s .net) stream fits in
+    let front : take (s .net) (messageBitsFor s w) ≡ net = ap (take (s .net)) holds ∙ take-at net (replicate spare 0) (s .net) long in
+    ap (λ (x : List ℕ). decode (streamIn x) .bytes) front
+    ∙ ap (λ (x : List ℕ). decode x .bytes) (net-back (s .net) stream)
+    ∙ ap (λ (d : Decoded). d .bytes) (stream-back message bytes)
+
+pub accepted-carries : (s : Sizes) (w : List ℕ) (repairs unmet room : ℕ) → Carries repairs unmet (answerFromAccepted s w repairs unmet room)
+unfolding answerFromAccepted firstOf
+accepted-carries s w repairs unmet room =
+    let m : List ℕ = messageBitsFor s w in
+    let row10 : Row ReadAnswer = on (anyOne (drop (s .net) m)) (counted 10 repairs unmet) in
+    first-keeps (Carries repairs unmet) row10 [] (answerFromNet (take (s .net) m) repairs unmet room)
+    (λ e. (refl, refl, λ z. omega arith)) (net-carries (take (s .net) m) repairs unmet room)
+
+-- ---- from the received word
+
+-- where the rule ends with a check unmet
+pub from-stuck : (s : Sizes) (w : List ℕ) (room : ℕ)
+    → stuck (checksFor s) w ≡ true
+    → answerFromReceived s w room ≡ counted 9 (length (repairsOf (checksFor s) w)) (unmetCount (checksFor s) w)
+unfolding answerFromReceived firstOf
+from-stuck s w room e = rw e refl
+
+-- where it ends with none
+pub from-mended : (s : Sizes) (w : List ℕ) (room : ℕ)
+    → stuck (checksFor s) w ≡ false
+    → let cs = checksFor s in
+    answerFromReceived s w room ≡ answerFromAccepted s (lastWord cs w) (length (repairsOf cs w)) (unmetCount cs w) room
+unfolding answerFromReceived firstOf
+from-mended s w room e = rw e refl
+
+-- ---- from the matrix
+
+same-self : (bs : List ℕ) → sameBits bs bs ≡ true
+unfolding sameBits
+same-self [] = refl
+same-self (b ∷ bs) = rw (eq-eqb b b refl) (same-self bs)
+
+-- a matrix of modules below N whose bits are a word and the stuffing bits
+pub from-matrix : (p : Params) (l matrix w : List ℕ) (room : ℕ)
+    → firstBadModule (p .colours) matrix ≡ length matrix
+    → receivedBits p l matrix ≡ w ++ stuffing (sizesFor p l .capacity - sizesFor p l .gross)
+    → length w ≡ sizesFor p l .gross
+    → answerFromMatrix p l matrix room ≡ answerFromReceived (sizesFor p l) w room
+unfolding answerFromMatrix firstOf wrongStuffing
+from-matrix p l matrix w room good received long =
+    let s : Sizes = sizesFor p l in
+    let end : List ℕ = stuffing (s .capacity - s .gross) in
+    let front : take (s .gross) (receivedBits p l matrix) ≡ w = ap (take (s .gross)) received ∙ take-at w end (s .gross) long in
+    let behind : drop (s .gross) (receivedBits p l matrix) ≡ end = ap (drop (s .gross)) received ∙ drop-at w end (s .gross) long in
+    rw (good, le-ltb (length matrix) (length matrix) (omega arith), front, behind, same-self end)
+
+-- A read that reaches the checks is legal, and its answer is the one from its received word.
+pub reaches : (p : Params) (l matrix : List ℕ) (work room : ℕ)
+    → reachesChecks p l matrix work ≡ true
+    → Legal p l (length matrix) work × (readAnswer p l matrix work room ≡ answerFromReceived (sizesFor p l) (receivedWord p l matrix) room)
+unfolding reachesChecks testsBeforeChecks readAnswer answerFromMatrix receivedWord
+reaches p l matrix work room e =
+    let s : Sizes = sizesFor p l in
+    let P : ReadAnswer → Type 0 = λ a. a .number ≡ 0 in
+    let number : ReadAnswer → ℕ = λ a. a .number in
+    let bad : ℕ = firstBadModule (p .colours) matrix in
+    let row7 : Row ReadAnswer = on (ltb bad (length matrix)) (refused 7 bad) in
+    let row8 : Row ReadAnswer = on (wrongStuffing s (receivedBits p l matrix)) (refused 8 0) in
+    let d : ReadAnswer = refused 0 0 in
+    let front : List (Row ReadAnswer) = frontTests refused p l (length matrix) work in
+    let zero-is : number (firstOf (front ++ row7 ∷ row8 ∷ []) d) ≡ 0 = eqb-true (number (firstOf (front ++ row7 ∷ row8 ∷ []) d)) 0 e in
+    let behind : number (firstOf front (firstOf (row7 ∷ row8 ∷ []) d)) ≡ 0 = sym (ap number (first-append front (row7 ∷ row8 ∷ []) d)) ∙ zero-is in
+    let passed : Legal p l (length matrix) work × P (firstOf (row7 ∷ row8 ∷ []) d) = front-legal refused number p l (length matrix) work (firstOf (row7 ∷ row8 ∷ []) d) (λ n place. refl) behind in
+    let at7 : (row7 .test ≡ false) × P (firstOf (row8 ∷ []) d) = first-beyond P row7 (row8 ∷ []) d (λ z. omega arith) (passed .1) in
+    let at8 : (row8 .test ≡ false) × P (firstOf [] d) = first-beyond P row8 [] d (λ z. omega arith) (at7 .1) in
+    let next : ReadAnswer = answerFromReceived s (receivedWord p l matrix) room in (
+      passed .0,
+      front-passed refused p l (length matrix) work (answerFromMatrix p l matrix room) (passed .0)
+          ∙ first-miss row7 (row8 ∷ []) next (at7 .0)
+          ∙ first-miss row8 [] next (at8 .0)
+          ∙ first-none next,
+    )
+
+-- the answer of a read is that of the tests 1 to 8, or the one from its received word
+read-tests : (p : Params) (l matrix : List ℕ) (work room : ℕ)
+    → readAnswer p l matrix work room
+    ≡ firstOf (testsBeforeChecks p l matrix work) (answerFromReceived (sizesFor p l) (receivedWord p l matrix) room)
+unfolding testsBeforeChecks readAnswer answerFromMatrix receivedWord
+read-tests p l matrix work room =
+    let s : Sizes = sizesFor p l in
+    let bad : ℕ = firstBadModule (p .colours) matrix in
+    let row7 : Row ReadAnswer = on (ltb bad (length matrix)) (refused 7 bad) in
+    let row8 : Row ReadAnswer = on (wrongStuffing s (receivedBits p l matrix)) (refused 8 0) in
+    sym (first-append (frontTests refused p l (length matrix) work) (row7 ∷ row8 ∷ []) (answerFromReceived s (receivedWord p l matrix) room))
+
+-- the number that the tests 1 to 8 give is at most 8
+early-number : (p : Params) (l matrix : List ℕ) (work : ℕ) → firstOf (testsBeforeChecks p l matrix work) (refused 0 0) .number ≤ 8
+unfolding testsBeforeChecks
+early-number p l matrix work =
+    let Q : ReadAnswer → Type 0 = λ a. a .number ≤ 8 in
+    let bad : ℕ = firstBadModule (p .colours) matrix in
+    let row7 : Row ReadAnswer = on (ltb bad (length matrix)) (refused 7 bad) in
+    let row8 : Row ReadAnswer = on (wrongStuffing (sizesFor p l) (receivedBits p l matrix)) (refused 8 0) in
+    let d : ReadAnswer = refused 0 0 in
+    let from8 : Q (firstOf (row8 ∷ []) d) = first-keeps Q row8 [] d (λ e. omega arith) (subst⁻¹ Q (first-none d) (omega arith)) in
+    let from7 : Q (firstOf (row7 ∷ row8 ∷ []) d) = first-keeps Q row7 (row8 ∷ []) d (λ e. omega arith) from8 in
+    subst⁻¹ Q (first-append (frontTests refused p l (length matrix) work) (row7 ∷ row8 ∷ []) d)
+    (front-keeps Q refused p l (length matrix) work (firstOf (row7 ∷ row8 ∷ []) d) (λ n place low high at. omega arith) from7)
+
+-- A read whose answer is none of 1 to 8 has reached the checks.
+pub reached : (p : Params) (l matrix : List ℕ) (work room : ℕ)
+    → (readAnswer p l matrix work room .number ≡ 0) ⊎ (9 ≤ readAnswer p l matrix work room .number)
+    → reachesChecks p l matrix work ≡ true
+unfolding reachesChecks
+reached p l matrix work room given =
+    let tests : List (Row ReadAnswer) = testsBeforeChecks p l matrix work in
+    let early : ReadAnswer = firstOf tests (refused 0 0) in
+    by (eqb (early .number) 0) (λ e. e) (λ e. absurd (go (first-either tests) (eqb-false (early .number) 0 e) given))
+  where
+    go : ((d : ReadAnswer) → firstOf (testsBeforeChecks p l matrix work) d ≡ d)
+        ⊎ ((a : ReadAnswer) × ((d : ReadAnswer) → firstOf (testsBeforeChecks p l matrix work) d ≡ a))
+        → (firstOf (testsBeforeChecks p l matrix work) (refused 0 0) .number ≡ 0 → ⊥)
+        → (readAnswer p l matrix work room .number ≡ 0) ⊎ (9 ≤ readAnswer p l matrix work room .number)
+        → ⊥
+    go (inl all) some answered = some (ap (λ (a : ReadAnswer). a .number) (all (refused 0 0)))
+    go (inr one) some answered =
+        let next : ReadAnswer = answerFromReceived (sizesFor p l) (receivedWord p l matrix) room in
+        let same : readAnswer p l matrix work room ≡ firstOf (testsBeforeChecks p l matrix work) (refused 0 0) = read-tests p l matrix work room ∙ one .1 next ∙ sym (one .1 (refused 0 0)) in
+        let number : readAnswer p l matrix work room .number ≡ firstOf (testsBeforeChecks p l matrix work) (refused 0 0) .number = ap (λ (a : ReadAnswer). a .number) same in
+        ⊎-elim (λ z. some (sym number ∙ z)) (λ z. omega (arith, number, z, early-number p l matrix work)) answered
