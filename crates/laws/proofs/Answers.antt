@@ -3,30 +3,29 @@
 -- Assumes nothing.
 use Prim.Native.Nat.{ℕ, suc, _*_, _≤_}
 use mathlib.Core.Path.{_≡_, refl, sym, ap, _∙_, subst⁻¹}
-use mathlib.Core.Bool.{Bool, true, false, cond, not, _||_}
-use mathlib.Core.Logic.{_⊎_, inl, inr, ⊎-elim}
+use mathlib.Core.Bool.{true, false, not, _||_}
+use mathlib.Core.Logic.{_⊎_, inl, inr}
 use mathlib.Core.List.{List, [], _∷_, _++_}
 use native.Mathlib.Omega.{arith}
 use lib.Dec.{eqb, ltb}
 use lib.ListN.{length, take, drop, replicate, length-append, length-drop}
 use lib.Seq.{take-at, drop-at}
-use borrow.Author.Tests.{eq-eqb, ne-eqb, eqb-false, ltb-false, not-true}
+use borrow.Author.Tests.{eq-eqb, ne-eqb}
 use Rattle.symbology.specs.declared.Params.{Params}
-use Rattle.symbology.specs.declared.Sizes.{Sizes}
 use Rattle.symbology.specs.declared.Answer.{Answer}
 use Rattle.symbology.specs.declared.ReadAnswer.{ReadAnswer}
 use Rattle.symbology.specs.Bits.{anyOne}
 use Rattle.symbology.specs.Parameters.{inRange}
 use Rattle.symbology.specs.Reserved.{listVerdict, listNumber, listPlace}
 use Rattle.symbology.specs.Rule.{unmetCount, repairsOf, lastWord, stuck}
-use Rattle.symbology.specs.Stream.{Decoded, decode, byteStream}
+use Rattle.symbology.specs.Stream.{decode, byteStream}
 use Rattle.symbology.specs.Net.{exceeds, streamIn}
 use Rattle.symbology.specs.Placement.{firstBadModule}
 use Rattle.symbology.specs.Tests.{Row, on, firstOf, sizeTests, bufferTests, frontTests, sizesFor}
 use Rattle.symbology.specs.Write.{answer, writeTests, writeAnswer, matrixAfterWrite, isLegal, workAfter}
-use Rattle.symbology.specs.Read.{refused, counted, done, receivedBits, receivedWord, wrongStuffing, checksFor, messageBitsFor, answerFromNet, answerFromAccepted, answerFromReceived, answerFromMatrix, readAnswer, messageInAccepted, messageIn, messageAfter}
+use Rattle.symbology.specs.Read.{refused, counted, done, receivedBits, receivedWord, wrongStuffing, checksFor, messageBitsFor, answerFromNet, answerFromAccepted, answerFromReceived, answerFromMatrix, readAnswer, messageIn, messageAfter}
+use Rattle.laws.proofs.Stages.{read-keeps}
 use Rattle.laws.proofs.Tests.{first-append, first-keeps, first-none, front-keeps}
-use Rattle.laws.proofs.Stream.{decode-number}
 
 -- ---- document 01, "Numbers returned"
 
@@ -78,66 +77,6 @@ unfolding firstOf sizeTests bufferTests frontTests receivedWord answerFromNet an
 read-table p l matrix work room = refl
 
 -- ---- which answers there are
-
--- a stream's number that is not 0 is 12 or 13
-stream-number : (n : ℕ) → (n ≡ 0) ⊎ (n ≡ 12) ⊎ (n ≡ 13) → not (eqb n 0) ≡ true → (9 ≤ n) × (n ≤ 14)
-stream-number n (inl e) t = absurd (eqb-false n 0 (not-true (eqb n 0) t) e)
-stream-number n (inr (inl e)) t = (omega arith, omega arith)
-stream-number n (inr (inr e)) t = (omega arith, omega arith)
-
--- of a table with one row
-last-row : (Q : ReadAnswer → Type 0) (r : Row ReadAnswer) (d : ReadAnswer)
-    → (r .test ≡ true → Q (r .gives))
-    → (r .test ≡ false → Q d)
-    → Q (firstOf (r ∷ []) d)
-unfolding firstOf
-last-row Q r d first other = go (r .test) first other
-  where
-    go : (t : Bool) → (t ≡ true → Q (r .gives)) → (t ≡ false → Q d) → Q (cond t (r .gives) d)
-    go true f g = f refl
-    go false f g = g refl
-
--- what each row's answer and the last one have, the answer of a read has
-pub read-keeps : (Q : ReadAnswer → Type 0) (p : Params) (l matrix : List ℕ) (work room : ℕ)
-    → let cs = checksFor (sizesFor p l) in
-    let w = receivedWord p l matrix in
-    let n = length (repairsOf cs w) in
-    let first = unmetCount cs w in
-    ((k place : ℕ) → 1 ≤ k → k ≤ 8 → (k ≡ 6 → ⊥) → (k ≡ 2) ⊎ (k ≡ 7) ⊎ (place ≡ 0) → Q (refused k place))
-    → ((k : ℕ) → 9 ≤ k → k ≤ 14 → Q (counted k n first))
-    → (length (messageIn p l matrix) ≤ room → Q (done (length (messageIn p l matrix)) n first))
-    → Q (readAnswer p l matrix work room)
-unfolding receivedWord messageInAccepted messageIn answerFromNet answerFromAccepted answerFromReceived answerFromMatrix readAnswer
-read-keeps Q p l matrix work room early late last =
-    let s : Sizes = sizesFor p l in
-    let bad : ℕ = firstBadModule (p .colours) matrix in
-    let cs : List (List ℕ) = checksFor s in
-    let w : List ℕ = receivedWord p l matrix in
-    let n : ℕ = length (repairsOf cs w) in
-    let first : ℕ = unmetCount cs w in
-    let m : List ℕ = messageBitsFor s (lastWord cs w) in
-    let net : List ℕ = take (s .net) m in
-    let d : Decoded = decode (streamIn net) in
-    let row7 : Row ReadAnswer = on (ltb bad (length matrix)) (refused 7 bad) in
-    let row8 : Row ReadAnswer = on (wrongStuffing s (receivedBits p l matrix)) (refused 8 0) in
-    let row9 : Row ReadAnswer = on (stuck cs w) (counted 9 n first) in
-    let row10 : Row ReadAnswer = on (anyOne (drop (s .net) m)) (counted 10 n first) in
-    let row11 : Row ReadAnswer = on (not (anyOne net)) (counted 11 n first) in
-    let row12 : Row ReadAnswer = on (not (eqb (d .number) 0)) (counted (d .number) n first) in
-    let row14 : Row ReadAnswer = on (ltb room (length (d .bytes))) (counted 14 n first) in
-    let zero-is : ReadAnswer = done (length (d .bytes)) n first in
-    let from14 : Q (firstOf (row14 ∷ []) zero-is) = last-row Q row14 zero-is (λ t. late 14 (omega arith) (omega arith)) (λ t. last (ltb-false room (length (d .bytes)) t)) in
-    let from12 : Q (firstOf (row12 ∷ row14 ∷ []) zero-is) = first-keeps Q row12 (row14 ∷ []) zero-is (λ t. let b : (9 ≤ d .number) × (d .number ≤ 14) = stream-number (d .number) (decode-number (streamIn net)) t in late (d .number) (b .0) (b .1)) from14 in
-    let from11 : Q (firstOf (row11 ∷ row12 ∷ row14 ∷ []) zero-is) = first-keeps Q row11 (row12 ∷ row14 ∷ []) zero-is (λ t. late 11 (omega arith) (omega arith)) from12 in
-    let from10 : Q (firstOf (row10 ∷ []) (answerFromNet net n first room)) = last-row Q row10 (answerFromNet net n first room) (λ t. late 10 (omega arith) (omega arith)) (λ t. from11) in
-    let from9 : Q (firstOf (row9 ∷ []) (answerFromAccepted s (lastWord cs w) n first room)) =
-    last-row Q row9 (answerFromAccepted s (lastWord cs w) n first room) (λ t. late 9 (omega arith) (omega arith)) (λ t. from10) in
-    let from8 : Q (firstOf (row8 ∷ []) (answerFromReceived s w room)) =
-    last-row Q row8 (answerFromReceived s w room) (λ t. early 8 0 (omega arith) (omega arith) (λ z. omega arith) (inr (inr refl))) (λ t. from9) in
-    let from7 : Q (firstOf (row7 ∷ row8 ∷ []) (answerFromReceived s w room)) =
-    first-keeps Q row7 (row8 ∷ []) (answerFromReceived s w room) (λ t. early 7 bad (omega arith) (omega arith) (λ z. omega arith) (inr (inl refl))) from8 in
-    front-keeps Q refused p l (length matrix) work (answerFromMatrix p l matrix room)
-    (λ k place low high where-zero. early k place low (omega arith) (λ z. omega arith) (⊎-elim (λ e. inl e) (λ e. inr (inr e)) where-zero)) from7
 
 -- A read answers 0 to 14 but not 6, its place is 0 but with 2 and 7, and a refusal has length 0.
 pub record ReadAnswerIs (a : ReadAnswer) : Type 0 where

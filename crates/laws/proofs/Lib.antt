@@ -39,8 +39,8 @@ pub mod Net
 pub mod Tests
 pub mod Sizes
 pub mod Symbols
-pub mod Answers
 pub mod Stages
+pub mod Answers
 pub mod RoundTrip
 pub mod Mending
 -- whole symbols, computed

@@ -1,13 +1,12 @@
 -- Demand 3 about the whole defined read: a read that reaches the checks mends by the rule, from the received word to the rule's end,
 -- and its answer and counts come from that run.
 -- Assumes nothing.
-use Prim.Native.Nat.{ℕ, _≤_}
+use Prim.Native.Nat.{ℕ, _≤_, _<_}
 use mathlib.Core.Path.{_≡_, refl, sym, ap, _∙_}
-use mathlib.Core.Bool.{true, false, cond}
-use mathlib.Core.List.{List, _++_}
+use mathlib.Core.Bool.{true, false}
+use mathlib.Core.List.{List}
 use native.Mathlib.Omega.{arith}
-use lib.Dec.{eqb}
-use lib.ListN.{length, drop}
+use lib.ListN.{length}
 use Rattle.symbology.specs.declared.Params.{Params}
 use Rattle.symbology.specs.declared.Sizes.{Sizes}
 use Rattle.symbology.specs.declared.ReadAnswer.{ReadAnswer}
@@ -16,11 +15,12 @@ use Rattle.symbology.specs.Shuffle.{interleavingSeed}
 use Rattle.symbology.specs.Rule.{unmetCount, repairsOf, lastWord, stuck}
 use Rattle.symbology.specs.Placement.{sampled}
 use Rattle.symbology.specs.Tests.{sizesFor}
-use Rattle.symbology.specs.Read.{counted, receivedBits, receivedWord, checksFor, answerFromAccepted, answerFromReceived, readAnswer, reachesChecks, messageInAccepted, messageIn, messageAfter}
+use Rattle.symbology.specs.Read.{counted, receivedBits, receivedWord, checksFor, answerFromAccepted, answerFromReceived, readAnswer, reachesChecks, messageIn, messageAfter}
 use Rattle.symbology.specs.Mending.{Mends}
 use Rattle.laws.proofs.Ranges.{by}
 use Rattle.laws.proofs.Bits.{take-bits}
-use Rattle.laws.proofs.Stages.{Carries, accepted-carries, from-stuck, from-mended, reaches}
+use Rattle.laws.proofs.Answers.{refused-read}
+use Rattle.laws.proofs.Stages.{accepted-counts, from-stuck, from-mended, reaches}
 use Rattle.laws.proofs.Rule.{AllOnce, checks-once}
 use Rattle.laws.proofs.Steps.{rule-steps, rule-ends, rule-only, repairs-bounded, stuck-means, not-stuck, unmet-stuck}
 use Rattle.laws.proofs.Placement.{sampled-bits}
@@ -41,48 +41,82 @@ symbol-once s = checks-once (s .checks) (s .gross) _
 
 -- ---- demand 3
 
+module _ (p : Params) (l matrix before : List ℕ) (work : ℕ) (reaching : reachesChecks p l matrix work ≡ true) where
+  abbrev checks : List (List ℕ)
+  checks = checksFor (sizesFor p l)
+
+  abbrev word : List ℕ
+  word = receivedWord p l matrix
+
+  -- the answer, and the one that the read gives where the rule's last word is accepted
+  abbrev answered : ReadAnswer
+  answered = readAnswer p l matrix work (length before)
+
+  abbrev onward : ReadAnswer
+  onward = answerFromAccepted (sizesFor p l) (lastWord checks word) (length (repairsOf checks word)) (unmetCount checks word) (length before)
+
+  is-received : answered ≡ answerFromReceived (sizesFor p l) word (length before)
+  is-received = reaches p l matrix work (length before) reaching .1
+
+  at-stuck : stuck checks word ≡ true → answered ≡ counted 9 (length (repairsOf checks word)) (unmetCount checks word)
+  at-stuck t = is-received ∙ from-stuck (sizesFor p l) word (length before) t
+
+  at-mended : stuck checks word ≡ false → answered ≡ onward
+  at-mended t = is-received ∙ from-mended (sizesFor p l) word (length before) t
+
+  onward-counts : (onward .repairs ≡ length (repairsOf checks word)) × (onward .unmet ≡ unmetCount checks word) × (onward .number ≡ 9 → ⊥)
+  onward-counts = accepted-counts (sizesFor p l) (lastWord checks word) (length (repairsOf checks word)) (unmetCount checks word) (length before)
+
+  is-nine : stuck checks word ≡ true → answered .number ≡ 9
+  is-nine t = ap (λ (a : ReadAnswer). a .number) (at-stuck t)
+
+  not-nine : stuck checks word ≡ false → answered .number ≡ 9 → ⊥
+  not-nine t nine = onward-counts .2 (sym (ap (λ (a : ReadAnswer). a .number) (at-mended t)) ∙ nine)
+
+  is-mended : (answered .number ≡ 9 → ⊥) → stuck checks word ≡ false
+  is-mended other = by (stuck checks word) (λ t. absurd (other (is-nine t))) (λ t. t)
+
+  repairs-reported : answered .repairs ≡ length (repairsOf checks word)
+  repairs-reported =
+      by (stuck checks word) (λ t. ap (λ (a : ReadAnswer). a .repairs) (at-stuck t))
+      (λ t. ap (λ (a : ReadAnswer). a .repairs) (at-mended t) ∙ onward-counts .0)
+
+  unmet-reported : answered .unmet ≡ unmetCount checks word
+  unmet-reported =
+      by (stuck checks word) (λ t. ap (λ (a : ReadAnswer). a .unmet) (at-stuck t))
+      (λ t. ap (λ (a : ReadAnswer). a .unmet) (at-mended t) ∙ onward-counts .1)
+
+  nine-when : 0 < unmetCount checks (lastWord checks word)
+      → (answered .number ≡ 9) × (messageAfter answered (messageIn p l matrix) before ≡ before)
+  nine-when some =
+      let nine : answered .number ≡ 9 = is-nine (unmet-stuck checks word some) in
+      (nine, refused-read answered (messageIn p l matrix) before (λ zero-is. omega arith))
+
 -- Whatever matrix is sampled, with whatever parameters, list and buffers, a read that reaches the checks mends by the rule, run from
 -- the received word to its end.
 pub mends : (p : Params) (l matrix before : List ℕ) (work : ℕ)
     → reachesChecks p l matrix work ≡ true
     → let a = readAnswer p l matrix work (length before) in
     Mends p l matrix before a (messageAfter a (messageIn p l matrix) before)
-unfolding messageAfter messageIn
-mends p l matrix before work e =
-    let s : Sizes = sizesFor p l in
-    let cs : List (List ℕ) = checksFor s in
+unfolding messageIn
+mends p l matrix before work reaching =
+    let cs : List (List ℕ) = checksFor (sizesFor p l) in
     let w : List ℕ = receivedWord p l matrix in
-    let a : ReadAnswer = readAnswer p l matrix work (length before) in
-    let n : ℕ = length (repairsOf cs w) in
-    let last : List ℕ = lastWord cs w in
+    let once : AllOnce cs = symbol-once (sizesFor p l) in
     let bits : AllBits w = received-bits p l matrix in
-    let once : AllOnce cs = symbol-once s in
-    let same : a ≡ answerFromReceived s w (length before) = reaches p l matrix work (length before) e .1 in
-    let at-stuck : stuck cs w ≡ true → a ≡ counted 9 n (unmetCount cs w) = λ t. same ∙ from-stuck s w (length before) t in
-    let at-mended : stuck cs w ≡ false → a ≡ answerFromAccepted s last n (unmetCount cs w) (length before) =
-    λ t. same ∙ from-mended s w (length before) t in
-    let carried : Carries n (unmetCount cs w) (answerFromAccepted s last n (unmetCount cs w) (length before)) = accepted-carries s last n (unmetCount cs w) (length before) in
-    let not-nine : stuck cs w ≡ false → a .number ≡ 9 → ⊥ = λ t z. carried .2 (sym (ap (λ (x : ReadAnswer). x .number) (at-mended t)) ∙ z) in
-    let is-nine : stuck cs w ≡ true → a .number ≡ 9 = λ t. ap (λ (x : ReadAnswer). x .number) (at-stuck t) in
-    let repairs-are : a .repairs ≡ n =
-    by (stuck cs w) (λ t. ap (λ (x : ReadAnswer). x .repairs) (at-stuck t)) (λ t. ap (λ (x : ReadAnswer). x .repairs) (at-mended t) ∙ carried .0) in
-    let unmet-is : a .unmet ≡ unmetCount cs w =
-    by (stuck cs w) (λ t. ap (λ (x : ReadAnswer). x .unmet) (at-stuck t)) (λ t. ap (λ (x : ReadAnswer). x .unmet) (at-mended t) ∙ carried .1) in
-    let free : (a .number ≡ 9 → ⊥) → stuck cs w ≡ false = λ no. by (stuck cs w) (λ t. absurd (no (is-nine t))) (λ t. t) in
+    let repairs : readAnswer p l matrix work (length before) .repairs ≡ length (repairsOf cs w) = repairs-reported p l matrix before work reaching in
+    let unmet : readAnswer p l matrix work (length before) .unmet ≡ unmetCount cs w = unmet-reported p l matrix before work reaching in
     record {
       repaired = repairsOf cs w;
-      last = last;
+      last = lastWord cs w;
       steps = rule-steps cs w once bits;
       ended = rule-ends cs w once bits;
       only = rule-only cs w once bits;
-      repairs-are = repairs-are;
-      unmet-is = unmet-is;
-      bounded = omega (arith, repairs-are, unmet-is, repairs-bounded cs w once bits);
-      is-stuck =
-          λ h.
-          let nine : a .number ≡ 9 = is-nine (unmet-stuck cs w h) in
-          (nine, ap (λ (k : ℕ). cond (eqb k 0) (messageInAccepted s last ++ drop (length (messageInAccepted s last)) before) before) nine);
-      when-stuck = λ nine. by (stuck cs w) (λ t. stuck-means cs w t) (λ t. absurd (not-nine t nine));
-      accepted = λ no. not-stuck cs w (free no);
-      goes-on = λ no. (at-mended (free no), refl);
+      repairs-are = repairs;
+      unmet-is = unmet;
+      bounded = omega (arith, repairs, unmet, repairs-bounded cs w once bits);
+      is-stuck = nine-when p l matrix before work reaching;
+      when-stuck = λ nine. by (stuck cs w) (stuck-means cs w) (λ t. absurd (not-nine p l matrix before work reaching t nine));
+      accepted = λ other. not-stuck cs w (is-mended p l matrix before work reaching other);
+      goes-on = λ other. (at-mended p l matrix before work reaching (is-mended p l matrix before work reaching other), refl);
     }

@@ -10,7 +10,7 @@ use native.Mathlib.Omega.{arith}
 use lib.Dec.{eqb, ltb}
 use lib.ListN.{length, take, drop, replicate}
 use lib.Seq.{take-at, drop-at}
-use borrow.Author.Tests.{eq-eqb, eqb-true, eqb-false, le-ltb}
+use borrow.Author.Tests.{eq-eqb, eqb-true, eqb-false, ltb-false, not-true, le-ltb}
 use Rattle.symbology.specs.declared.Params.{Params}
 use Rattle.symbology.specs.declared.Sizes.{Sizes}
 use Rattle.symbology.specs.declared.ReadAnswer.{ReadAnswer}
@@ -20,8 +20,8 @@ use Rattle.symbology.specs.Stream.{Decoded, decode, byteStream}
 use Rattle.symbology.specs.Net.{withEndMark, streamIn, stuffing}
 use Rattle.symbology.specs.Placement.{firstBadModule}
 use Rattle.symbology.specs.Tests.{Row, on, firstOf, frontTests, sizesFor}
-use Rattle.symbology.specs.Read.{refused, counted, done, receivedBits, receivedWord, sameBits, wrongStuffing, checksFor, messageBitsFor, answerFromNet, answerFromAccepted, answerFromReceived, answerFromMatrix, readAnswer, testsBeforeChecks, reachesChecks, messageInAccepted}
-use Rattle.laws.proofs.Tests.{Legal, front-legal, front-passed, first-miss, first-none, first-append, first-beyond, first-either, first-keeps, front-keeps}
+use Rattle.symbology.specs.Read.{refused, counted, done, receivedBits, receivedWord, sameBits, wrongStuffing, checksFor, messageBitsFor, answerFromNet, answerFromAccepted, answerFromReceived, answerFromMatrix, readAnswer, testsBeforeChecks, reachesChecks, messageInAccepted, messageIn}
+use Rattle.laws.proofs.Tests.{Legal, front-legal, front-passed, first-miss, first-none, first-append, first-beyond, first-either, first-keeps, only-row, front-keeps}
 use Rattle.laws.proofs.Ranges.{by}
 use Rattle.laws.proofs.Stream.{decode-number}
 use Rattle.laws.proofs.ByteMode.{stream-back}
@@ -40,27 +40,29 @@ from-net n message repairs unmet room bytes fits =
     let back : decode (streamIn (withEndMark n stream)) ≡ record { number = 0; bytes = message } = ap decode (net-back n stream) ∙ stream-back message bytes in
     rw (net-some n stream, back, le-ltb room (length message) fits)
 
--- The counts are those of the mending, and the number is not 9.
-abbrev pub Carries : ℕ → ℕ → ReadAnswer → Type 0
-Carries repairs unmet a = (a .repairs ≡ repairs) × (a .unmet ≡ unmet) × (a .number ≡ 9 → ⊥)
+-- a stream's number that is not 0 is 12 or 13
+refusing : (n : ℕ) → (n ≡ 0) ⊎ (n ≡ 12) ⊎ (n ≡ 13) → not (eqb n 0) ≡ true → (10 ≤ n) × (n ≤ 14)
+refusing n (inl e) t = absurd (eqb-false n 0 (not-true (eqb n 0) t) e)
+refusing n (inr (inl e)) t = (omega arith, omega arith)
+refusing n (inr (inr e)) t = (omega arith, omega arith)
 
-pub net-carries : (net : List ℕ) (repairs unmet room : ℕ) → Carries repairs unmet (answerFromNet net repairs unmet room)
-unfolding answerFromNet firstOf
-net-carries net repairs unmet room =
+-- what the answers 11 to 14 have, and 0 where the bytes fit, the answer has
+pub net-keeps : (Q : ReadAnswer → Type 0) (net : List ℕ) (n first room : ℕ)
+    → ((k : ℕ) → 10 ≤ k → k ≤ 14 → Q (counted k n first))
+    → let m = decode (streamIn net) .bytes in
+    (length m ≤ room → Q (done (length m) n first))
+    → Q (answerFromNet net n first room)
+unfolding answerFromNet
+net-keeps Q net n first room late last =
     let d : Decoded = decode (streamIn net) in
-    let Q : ReadAnswer → Type 0 = Carries repairs unmet in
-    let last : ReadAnswer = done (length (d .bytes)) repairs unmet in
-    let row11 : Row ReadAnswer = on (not (anyOne net)) (counted 11 repairs unmet) in
-    let row12 : Row ReadAnswer = on (not (eqb (d .number) 0)) (counted (d .number) repairs unmet) in
-    let row14 : Row ReadAnswer = on (ltb room (length (d .bytes))) (counted 14 repairs unmet) in
-    first-keeps Q row11 (row12 ∷ row14 ∷ []) last (λ e. (refl, refl, λ z. omega arith))
-    (first-keeps Q row12 (row14 ∷ []) last (λ e. (refl, refl, not-nine (d .number) (decode-number (streamIn net))))
-    (first-keeps Q row14 [] last (λ e. (refl, refl, λ z. omega arith)) (refl, refl, λ z. omega arith)))
-  where
-    not-nine : (n : ℕ) → (n ≡ 0) ⊎ (n ≡ 12) ⊎ (n ≡ 13) → n ≡ 9 → ⊥
-    not-nine n (inl e) z = omega arith
-    not-nine n (inr (inl e)) z = omega arith
-    not-nine n (inr (inr e)) z = omega arith
+    let row11 : Row ReadAnswer = on (not (anyOne net)) (counted 11 n first) in
+    let row12 : Row ReadAnswer = on (not (eqb (d .number) 0)) (counted (d .number) n first) in
+    let row14 : Row ReadAnswer = on (ltb room (length (d .bytes))) (counted 14 n first) in
+    let end : ReadAnswer = done (length (d .bytes)) n first in
+    let in-code : row12 .test ≡ true → (10 ≤ d .number) × (d .number ≤ 14) = refusing (d .number) (decode-number (streamIn net)) in
+    first-keeps Q row11 (row12 ∷ row14 ∷ []) end (λ t. late 11 (omega arith) (omega arith))
+    (first-keeps Q row12 (row14 ∷ []) end (λ t. late (d .number) (in-code t .0) (in-code t .1))
+    (only-row Q row14 end (λ t. late 14 (omega arith) (omega arith)) (λ t. last (ltb-false room (length (d .bytes)) t))))
 
 -- ---- from the accepted word
 
@@ -91,13 +93,26 @@ accepted-bytes s w message spare bytes fits holds =
     ∙ ap (λ (x : List ℕ). decode x .bytes) (net-back (s .net) stream)
     ∙ ap (λ (d : Decoded). d .bytes) (stream-back message bytes)
 
-pub accepted-carries : (s : Sizes) (w : List ℕ) (repairs unmet room : ℕ) → Carries repairs unmet (answerFromAccepted s w repairs unmet room)
-unfolding answerFromAccepted firstOf
-accepted-carries s w repairs unmet room =
+-- what the answers 10 to 14 have, and 0 where the bytes fit, the answer has
+pub accepted-keeps : (Q : ReadAnswer → Type 0) (s : Sizes) (w : List ℕ) (n first room : ℕ)
+    → ((k : ℕ) → 10 ≤ k → k ≤ 14 → Q (counted k n first))
+    → let m = messageInAccepted s w in
+    (length m ≤ room → Q (done (length m) n first))
+    → Q (answerFromAccepted s w n first room)
+unfolding answerFromAccepted messageInAccepted
+accepted-keeps Q s w n first room late last =
     let m : List ℕ = messageBitsFor s w in
-    let row10 : Row ReadAnswer = on (anyOne (drop (s .net) m)) (counted 10 repairs unmet) in
-    first-keeps (Carries repairs unmet) row10 [] (answerFromNet (take (s .net) m) repairs unmet room)
-    (λ e. (refl, refl, λ z. omega arith)) (net-carries (take (s .net) m) repairs unmet room)
+    let row10 : Row ReadAnswer = on (anyOne (drop (s .net) m)) (counted 10 n first) in
+    only-row Q row10 (answerFromNet (take (s .net) m) n first room) (λ t. late 10 (omega arith) (omega arith))
+    (λ t. net-keeps Q (take (s .net) m) n first room late last)
+
+-- The counts of an answer from the accepted word are those of the mending, and its number is not 9.
+pub accepted-counts : (s : Sizes) (w : List ℕ) (n first room : ℕ)
+    → let a = answerFromAccepted s w n first room in
+    (a .repairs ≡ n) × (a .unmet ≡ first) × (a .number ≡ 9 → ⊥)
+accepted-counts s w n first room =
+    accepted-keeps (λ (a : ReadAnswer). (a .repairs ≡ n) × (a .unmet ≡ first) × (a .number ≡ 9 → ⊥)) s w n first room
+    (λ k low high. (refl, refl, λ z. omega arith)) (λ fits. (refl, refl, λ z. omega arith))
 
 -- ---- from the received word
 
@@ -115,6 +130,24 @@ pub from-mended : (s : Sizes) (w : List ℕ) (room : ℕ)
     answerFromReceived s w room ≡ answerFromAccepted s (lastWord cs w) (length (repairsOf cs w)) (unmetCount cs w) room
 unfolding answerFromReceived firstOf
 from-mended s w room e = rw e refl
+
+-- what the answers 9 to 14 have, and 0 where the bytes fit, the answer has
+pub received-keeps : (Q : ReadAnswer → Type 0) (s : Sizes) (w : List ℕ) (room : ℕ)
+    → let cs = checksFor s in
+    let n = length (repairsOf cs w) in
+    let first = unmetCount cs w in
+    let m = messageInAccepted s (lastWord cs w) in
+    ((k : ℕ) → 9 ≤ k → k ≤ 14 → Q (counted k n first))
+    → (length m ≤ room → Q (done (length m) n first))
+    → Q (answerFromReceived s w room)
+unfolding answerFromReceived
+received-keeps Q s w room late last =
+    let cs : List (List ℕ) = checksFor s in
+    let n : ℕ = length (repairsOf cs w) in
+    let first : ℕ = unmetCount cs w in
+    let row9 : Row ReadAnswer = on (stuck cs w) (counted 9 n first) in
+    only-row Q row9 (answerFromAccepted s (lastWord cs w) n first room) (λ t. late 9 (omega arith) (omega arith))
+    (λ t. accepted-keeps Q s (lastWord cs w) n first room (λ k low high. late k (omega arith) high) last)
 
 -- ---- from the matrix
 
@@ -176,19 +209,44 @@ read-tests p l matrix work room =
     let row8 : Row ReadAnswer = on (wrongStuffing s (receivedBits p l matrix)) (refused 8 0) in
     sym (first-append (frontTests refused p l (length matrix) work) (row7 ∷ row8 ∷ []) (answerFromReceived s (receivedWord p l matrix) room))
 
--- the number that the tests 1 to 8 give is at most 8
-early-number : (p : Params) (l matrix : List ℕ) (work : ℕ) → firstOf (testsBeforeChecks p l matrix work) (refused 0 0) .number ≤ 8
+-- what the answers 1 to 8 have, and the one behind them, the answer has
+early-keeps : (Q : ReadAnswer → Type 0) (p : Params) (l matrix : List ℕ) (work : ℕ) (d : ReadAnswer)
+    → ((k place : ℕ) → 1 ≤ k → k ≤ 8 → (k ≡ 6 → ⊥) → (k ≡ 2) ⊎ (k ≡ 7) ⊎ (place ≡ 0) → Q (refused k place))
+    → Q d
+    → Q (firstOf (testsBeforeChecks p l matrix work) d)
 unfolding testsBeforeChecks
-early-number p l matrix work =
-    let Q : ReadAnswer → Type 0 = λ a. a .number ≤ 8 in
+early-keeps Q p l matrix work d early behind =
     let bad : ℕ = firstBadModule (p .colours) matrix in
     let row7 : Row ReadAnswer = on (ltb bad (length matrix)) (refused 7 bad) in
     let row8 : Row ReadAnswer = on (wrongStuffing (sizesFor p l) (receivedBits p l matrix)) (refused 8 0) in
-    let d : ReadAnswer = refused 0 0 in
-    let from8 : Q (firstOf (row8 ∷ []) d) = first-keeps Q row8 [] d (λ e. omega arith) (subst⁻¹ Q (first-none d) (omega arith)) in
-    let from7 : Q (firstOf (row7 ∷ row8 ∷ []) d) = first-keeps Q row7 (row8 ∷ []) d (λ e. omega arith) from8 in
+    let from8 : Q (firstOf (row8 ∷ []) d) = only-row Q row8 d (λ t. early 8 0 (omega arith) (omega arith) (λ z. omega arith) (inr (inr refl))) (λ t. behind) in
+    let from7 : Q (firstOf (row7 ∷ row8 ∷ []) d) = first-keeps Q row7 (row8 ∷ []) d (λ t. early 7 bad (omega arith) (omega arith) (λ z. omega arith) (inr (inl refl))) from8 in
     subst⁻¹ Q (first-append (frontTests refused p l (length matrix) work) (row7 ∷ row8 ∷ []) d)
-    (front-keeps Q refused p l (length matrix) work (firstOf (row7 ∷ row8 ∷ []) d) (λ n place low high at. omega arith) from7)
+    (front-keeps Q refused p l (length matrix) work (firstOf (row7 ∷ row8 ∷ []) d)
+    (λ k place low high at. early k place low (omega arith) (λ z. omega arith) (⊎-elim (λ e. inl e) (λ e. inr (inr e)) at)) from7)
+
+-- What the answers 1 to 8 have, 9 to 14 with the counts of the mending, and 0 where the message fits, every answer of a read has.
+pub read-keeps : (Q : ReadAnswer → Type 0) (p : Params) (l matrix : List ℕ) (work room : ℕ)
+    → let cs = checksFor (sizesFor p l) in
+    let w = receivedWord p l matrix in
+    let n = length (repairsOf cs w) in
+    let first = unmetCount cs w in
+    let m = messageIn p l matrix in
+    ((k place : ℕ) → 1 ≤ k → k ≤ 8 → (k ≡ 6 → ⊥) → (k ≡ 2) ⊎ (k ≡ 7) ⊎ (place ≡ 0) → Q (refused k place))
+    → ((k : ℕ) → 9 ≤ k → k ≤ 14 → Q (counted k n first))
+    → (length m ≤ room → Q (done (length m) n first))
+    → Q (readAnswer p l matrix work room)
+unfolding messageIn
+read-keeps Q p l matrix work room early late last =
+    let s : Sizes = sizesFor p l in
+    let w : List ℕ = receivedWord p l matrix in
+    subst⁻¹ Q (read-tests p l matrix work room)
+    (early-keeps Q p l matrix work (answerFromReceived s w room) early (received-keeps Q s w room late last))
+
+-- the number that the tests 1 to 8 give is at most 8
+early-number : (p : Params) (l matrix : List ℕ) (work : ℕ) → firstOf (testsBeforeChecks p l matrix work) (refused 0 0) .number ≤ 8
+early-number p l matrix work =
+    early-keeps (λ (a : ReadAnswer). a .number ≤ 8) p l matrix work (refused 0 0) (λ k place low high no6 at. high) (omega arith)
 
 -- A read whose answer is none of 1 to 8 has reached the checks.
 pub reached : (p : Params) (l matrix : List ℕ) (work room : ℕ)

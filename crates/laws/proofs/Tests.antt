@@ -96,6 +96,15 @@ module _ {A : Type 0} where
       go true f = f refl
       go false f = others
 
+  -- a table with one row
+  pub only-row : (Q : A → Type 0) (r : Row A) (d : A) → (r .test ≡ true → Q (r .gives)) → (r .test ≡ false → Q d) → Q (firstOf (r ∷ []) d)
+  unfolding firstOf
+  only-row Q r d first other = go (r .test) first other
+    where
+      go : (t : Bool) → (t ≡ true → Q (r .gives)) → (t ≡ false → Q d) → Q (cond t (r .gives) d)
+      go true f g = f refl
+      go false f g = g refl
+
 -- ---- the tests 1 to 5
 
 -- parameters, list and buffers that are legal, one fact for each test
