@@ -3,7 +3,7 @@
 -- Assumes nothing.
 use Prim.Native.Nat.{ℕ, suc, _*_, _≤_}
 use mathlib.Core.Path.{_≡_, refl, sym, ap, _∙_, subst⁻¹}
-use mathlib.Core.Bool.{true, false, not, _||_}
+use mathlib.Core.Bool.{cond, true, false, not, _||_}
 use mathlib.Core.Logic.{_⊎_, inl, inr}
 use mathlib.Core.List.{List, [], _∷_, _++_}
 use native.Mathlib.Omega.{arith}
@@ -12,19 +12,21 @@ use lib.ListN.{length, take, drop, replicate, length-append, length-drop}
 use lib.Seq.{take-at, drop-at}
 use borrow.Author.Tests.{eq-eqb, ne-eqb}
 use Rattle.symbology.specs.declared.Params.{Params}
+use Rattle.symbology.specs.declared.Sizes.{Sizes}
 use Rattle.symbology.specs.declared.Answer.{Answer}
 use Rattle.symbology.specs.declared.ReadAnswer.{ReadAnswer}
 use Rattle.symbology.specs.Bits.{anyOne}
 use Rattle.symbology.specs.Parameters.{inRange}
 use Rattle.symbology.specs.Reserved.{listVerdict, listNumber, listPlace}
 use Rattle.symbology.specs.Rule.{unmetCount, repairsOf, lastWord, stuck}
-use Rattle.symbology.specs.Stream.{decode, byteStream}
+use Rattle.symbology.specs.Stream.{decode, byteStream, Decoded}
 use Rattle.symbology.specs.Net.{exceeds, streamIn}
 use Rattle.symbology.specs.Placement.{firstBadModule}
 use Rattle.symbology.specs.Tests.{Row, on, firstOf, sizeTests, bufferTests, frontTests, sizesFor}
 use Rattle.symbology.specs.Write.{answer, writeTests, writeAnswer, matrixAfterWrite, isLegal, workAfter}
-use Rattle.symbology.specs.Read.{refused, counted, done, receivedBits, receivedWord, wrongStuffing, checksFor, messageBitsFor, answerFromNet, answerFromAccepted, answerFromReceived, answerFromMatrix, readAnswer, messageIn, messageAfter}
-use Rattle.laws.proofs.Stages.{read-keeps}
+use Rattle.symbology.specs.Read.{refused, counted, done, receivedBits, receivedWord, wrongStuffing, checksFor, messageBitsFor, answerFromNet, answerFromAccepted, answerFromReceived, readAnswer, messageIn, messageAfter, testsBeforeChecks}
+use Rattle.laws.proofs.Stream.{decode-number}
+use Rattle.laws.proofs.Stages.{read-tests, read-keeps}
 use Rattle.laws.proofs.Tests.{first-append, first-keeps, first-none, front-keeps}
 
 -- ---- document 01, "Numbers returned"
@@ -45,8 +47,34 @@ pub write-table : (p : Params) (l message : List ℕ) (modules room : ℕ)
 unfolding firstOf sizeTests bufferTests frontTests writeTests writeAnswer
 write-table p l message modules room = refl
 
--- The answer of a read is that of the first of these rows whose test holds, and 0 where none does. 12 and 13 share a row: the number
--- is the one that the stream met first.
+-- the rows 12 and 13: the number is the one that the stream met first, if any
+stream-rows : (number n first : ℕ) (later : ReadAnswer)
+    → (number ≡ 0) ⊎ (number ≡ 12) ⊎ (number ≡ 13)
+    → firstOf (on (not (eqb number 0)) (counted number n first) ∷ []) later
+    ≡ firstOf (on (eqb number 12) (counted 12 n first) ∷ on (eqb number 13) (counted 13 n first) ∷ []) later
+unfolding firstOf
+stream-rows number n first later (inl e) = rw e refl
+stream-rows number n first later (inr (inl e)) = rw e refl
+stream-rows number n first later (inr (inr e)) = rw e refl
+
+-- the rows 11 to 14
+net-table : (net : List ℕ) (n first room : ℕ)
+    → let d = decode (streamIn net) in
+    answerFromNet net n first room
+    ≡ firstOf
+    (on (not (anyOne net)) (counted 11 n first)
+    ∷ on (eqb (d .number) 12) (counted 12 n first)
+    ∷ on (eqb (d .number) 13) (counted 13 n first)
+    ∷ on (ltb room (length (d .bytes))) (counted 14 n first)
+    ∷ [])
+    (done (length (d .bytes)) n first)
+unfolding firstOf answerFromNet
+net-table net n first room =
+    let d : Decoded = decode (streamIn net) in
+    let later : ReadAnswer = firstOf (on (ltb room (length (d .bytes))) (counted 14 n first) ∷ []) (done (length (d .bytes)) n first) in
+    ap (λ (a : ReadAnswer). cond (not (anyOne net)) (counted 11 n first) a) (stream-rows (d .number) n first later (decode-number (streamIn net)))
+
+-- The answer of a read is that of the first of these rows whose test holds, and 0 where none does.
 pub read-table : (p : Params) (l matrix : List ℕ) (work room : ℕ)
     → let s = sizesFor p l in
     let bad = firstBadModule (p .colours) matrix in
@@ -69,16 +97,28 @@ pub read-table : (p : Params) (l matrix : List ℕ) (work room : ℕ)
     ∷ on (stuck cs w) (counted 9 n first)
     ∷ on (anyOne (drop (s .net) m)) (counted 10 n first)
     ∷ on (not (anyOne net)) (counted 11 n first)
-    ∷ on (not (eqb (d .number) 0)) (counted (d .number) n first)
+    ∷ on (eqb (d .number) 12) (counted 12 n first)
+    ∷ on (eqb (d .number) 13) (counted 13 n first)
     ∷ on (ltb room (length (d .bytes))) (counted 14 n first)
     ∷ [])
     (done (length (d .bytes)) n first)
-unfolding firstOf sizeTests bufferTests frontTests receivedWord answerFromNet answerFromAccepted answerFromReceived answerFromMatrix readAnswer
-read-table p l matrix work room = refl
+unfolding firstOf testsBeforeChecks sizeTests bufferTests frontTests answerFromAccepted answerFromReceived
+read-table p l matrix work room =
+    let s : Sizes = sizesFor p l in
+    let cs : List (List ℕ) = checksFor s in
+    let w : List ℕ = receivedWord p l matrix in
+    let n : ℕ = length (repairsOf cs w) in
+    let first : ℕ = unmetCount cs w in
+    let m : List ℕ = messageBitsFor s (lastWord cs w) in
+    let net : List ℕ = take (s .net) m in
+    let row9 : Row ReadAnswer = on (stuck cs w) (counted 9 n first) in
+    let row10 : Row ReadAnswer = on (anyOne (drop (s .net) m)) (counted 10 n first) in
+    read-tests p l matrix work room
+    ∙ ap (λ (a : ReadAnswer). firstOf (testsBeforeChecks p l matrix work) (firstOf (row9 ∷ row10 ∷ []) a)) (net-table net n first room)
 
 -- ---- which answers there are
 
--- A read answers 0 to 14 but not 6, its place is 0 but with 2 and 7, and a refusal has length 0.
+-- number, place, length and counts as document 01 has them
 pub record ReadAnswerIs (a : ReadAnswer) : Type 0 where
   pub number-most : a .number ≤ 14
   pub number-not-6 : a .number ≡ 6 → ⊥
@@ -86,6 +126,7 @@ pub record ReadAnswerIs (a : ReadAnswer) : Type 0 where
   pub length-is : (a .number ≡ 0) ⊎ (a .length ≡ 0)
   pub counts-are : (a .number ≡ 0) ⊎ (9 ≤ a .number) ⊎ ((a .repairs ≡ 0) × (a .unmet ≡ 0))
 
+-- A read answers 0 to 14 but not 6, its place is 0 but with 2 and 7, a refusal has length 0, and with 1 to 8 the counts are 0.
 pub read-answer : (p : Params) (l matrix : List ℕ) (work room : ℕ) → ReadAnswerIs (readAnswer p l matrix work room)
 read-answer p l matrix work room =
     read-keeps ReadAnswerIs p l matrix work room
@@ -107,11 +148,12 @@ read-length p l matrix work room =
     (λ k low high z. absurd (omega arith))
     (λ fits z. (refl, fits))
 
--- a write answers 0 to 6, and its place is 0 but with 2
+-- number and place as document 01 has them
 pub record WriteAnswerIs (a : Answer) : Type 0 where
   pub number-most : a .number ≤ 6
   pub place-is : (a .number ≡ 2) ⊎ (a .place ≡ 0)
 
+-- A write answers 0 to 6, and its place is 0 but with 2.
 pub write-answer : (p : Params) (l message : List ℕ) (modules work : ℕ) → WriteAnswerIs (writeAnswer p l message modules work)
 unfolding writeAnswer writeTests
 write-answer p l message modules work =
@@ -161,7 +203,7 @@ pub work-cleared : (p : Params) (l work : List ℕ) (modules : ℕ)
 unfolding workAfter
 work-cleared p l work modules e = rw e refl
 
--- Before that it is untouched.
+-- A call that test 5 or an earlier one refuses leaves the work buffer as it came.
 pub work-untouched : (p : Params) (l work : List ℕ) (modules : ℕ)
     → isLegal p l modules (length work) ≡ false
     → workAfter p l modules work ≡ work

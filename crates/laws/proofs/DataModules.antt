@@ -120,19 +120,22 @@ free-first p l =
         ∙ sum-ext (λ r. off r + on r) (λ r. 1) 0 (rows p) (λ r a b. free-covered p l (c + 1) (r + 1))
         ∙ omega (arith, sum-const 1 0 (rows p))
 
-module _ (p : Params) (l : List ℕ) (range : inRange p ≡ true) (sound : listVerdict p l ≡ Sound) where
-  data-free : sumFrom 0 (columns p) (columnData p l (rows p)) ≡ freeModules p l (entries l)
-  unfolding columnData
-  data-free =
-      sum-ext (columnData p l (rows p)) (freeInColumn p l (entries l)) 0 (columns p)
-      (λ c a b. sum-ext (λ r. tally (isData (cellOf p l (c + 1) (r + 1)))) (λ r. tally (free p l (entries l) (c + 1) (r + 1))) 0 (rows p)
-      (λ r d e. ap tally (is-data p l (c + 1) (r + 1))))
+-- the data modules are those left free by patterns and all entries
+pub data-free : (p : Params) (l : List ℕ)
+    → sumFrom 0 (columns p) (columnData p l (rows p))
+    ≡ sumFrom 0 (columns p) (λ c. sumFrom 0 (rows p) (λ r. tally (free p l (entries l) (c + 1) (r + 1))))
+unfolding columnData
+data-free p l =
+    sum-ext (columnData p l (rows p)) (freeInColumn p l (entries l)) 0 (columns p)
+    (λ c a b. sum-ext (λ r. tally (isData (cellOf p l (c + 1) (r + 1)))) (λ r. tally (free p l (entries l) (c + 1) (r + 1))) 0 (rows p)
+    (λ r d e. ap tally (is-data p l (c + 1) (r + 1))))
 
+module _ (p : Params) (l : List ℕ) (range : inRange p ≡ true) (sound : listVerdict p l ≡ Sound) where
   -- Every module is a data module, one of a pattern, or one of an entry.
   pub module-count : sumFrom 0 (columns p) (columnData p l (rows p)) + entries l + patternModules (p .kind) (p .horizontal) (p .vertical)
       ≡ columns p * rows p
   module-count =
-      omega (arith, data-free, free-left p l (sound-list p l sound) (entries l) (omega arith), free-first p l, pattern-count p range)
+      omega (arith, data-free p l, free-left p l (sound-list p l sound) (entries l) (omega arith), free-first p l, pattern-count p range)
 
   -- The modules that are neither of a pattern nor of an entry number exactly D.
   pub data-count : sumFrom 0 (columns p) (columnData p l (rows p)) ≡ dataModules (p .kind) (p .horizontal) (p .vertical) (entries l) .0

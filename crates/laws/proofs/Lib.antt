@@ -14,6 +14,7 @@ pub mod DataModules
 pub mod Masks
 pub mod Ranks
 pub mod Placement
+pub mod Cells
 -- draws and shuffles
 pub mod Generator
 pub mod Rounding

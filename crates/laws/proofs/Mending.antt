@@ -7,6 +7,7 @@ use mathlib.Core.Bool.{true, false}
 use mathlib.Core.List.{List}
 use native.Mathlib.Omega.{arith}
 use lib.ListN.{length}
+use lib.Seq.{length-take-le}
 use Rattle.symbology.specs.declared.Params.{Params}
 use Rattle.symbology.specs.declared.Sizes.{Sizes}
 use Rattle.symbology.specs.declared.ReadAnswer.{ReadAnswer}
@@ -20,11 +21,13 @@ use Rattle.symbology.specs.Mending.{Mends}
 use Rattle.laws.proofs.Ranges.{by}
 use Rattle.laws.proofs.Bits.{take-bits}
 use Rattle.laws.proofs.Answers.{refused-read}
-use Rattle.laws.proofs.Stages.{accepted-counts, from-stuck, from-mended, reaches}
+use Rattle.laws.proofs.Stages.{accepted-counts, from-stuck, from-mended, reaches-gives}
 use Rattle.laws.proofs.Rule.{AllOnce, checks-once}
-use Rattle.laws.proofs.Steps.{rule-steps, rule-ends, rule-only, repairs-bounded, stuck-means, not-stuck, unmet-stuck}
+use Rattle.laws.proofs.Steps.{rule-steps, rule-lowers, rule-ends, rule-only, repairs-bounded, stuck-means, not-stuck, unmet-stuck}
 use Rattle.laws.proofs.Placement.{sampled-bits}
-use Rattle.laws.proofs.Shuffle.{unshuffled-every}
+use Rattle.laws.proofs.Shuffle.{length-unshuffled, unshuffled-every}
+use Rattle.laws.proofs.Tests.{Legal}
+use Rattle.laws.proofs.Sizes.{gross-most, sampled-whole}
 
 -- ---- the received word
 
@@ -33,6 +36,15 @@ pub received-bits : (p : Params) (l matrix : List ℕ) → AllBits (receivedWord
 unfolding receivedWord receivedBits
 received-bits p l matrix =
     take-bits (sizesFor p l .gross) (receivedBits p l matrix) (unshuffled-every 0 (λ (b : ℕ). b ≤ 1) interleavingSeed (sampled p l matrix) (sampled-bits p l matrix))
+
+-- and there are Pg of them
+pub length-received : (p : Params) (l matrix : List ℕ) (modules room : ℕ)
+    → Legal p l modules room
+    → length (receivedWord p l matrix) ≡ sizesFor p l .gross
+unfolding receivedWord receivedBits
+length-received p l matrix modules room k =
+    let whole : length (receivedBits p l matrix) ≡ sizesFor p l .capacity = length-unshuffled 0 interleavingSeed (sampled p l matrix) ∙ sampled-whole p l matrix modules room k in
+    length-take-le (sizesFor p l .gross) (receivedBits p l matrix) (omega (arith, whole, gross-most p l))
 
 -- the checks of a symbol name each of their columns once
 pub symbol-once : (s : Sizes) → AllOnce (checksFor s)
@@ -56,7 +68,7 @@ module _ (p : Params) (l matrix before : List ℕ) (work : ℕ) (reaching : reac
   onward = answerFromAccepted (sizesFor p l) (lastWord checks word) (length (repairsOf checks word)) (unmetCount checks word) (length before)
 
   is-received : answered ≡ answerFromReceived (sizesFor p l) word (length before)
-  is-received = reaches p l matrix work (length before) reaching .1
+  is-received = reaches-gives p l matrix work (length before) reaching .1
 
   at-stuck : stuck checks word ≡ true → answered ≡ counted 9 (length (repairsOf checks word)) (unmetCount checks word)
   at-stuck t = is-received ∙ from-stuck (sizesFor p l) word (length before) t
@@ -86,11 +98,13 @@ module _ (p : Params) (l matrix before : List ℕ) (work : ℕ) (reaching : reac
       by (stuck checks word) (λ t. ap (λ (a : ReadAnswer). a .unmet) (at-stuck t))
       (λ t. ap (λ (a : ReadAnswer). a .unmet) (at-mended t) ∙ onward-counts .1)
 
-  nine-when : 0 < unmetCount checks (lastWord checks word)
-      → (answered .number ≡ 9) × (messageAfter answered (messageIn p l matrix) before ≡ before)
-  nine-when some =
-      let nine : answered .number ≡ 9 = is-nine (unmet-stuck checks word some) in
-      (nine, refused-read answered (messageIn p l matrix) before (λ zero-is. omega arith))
+  when-unmet : 0 < unmetCount checks (lastWord checks word)
+      → (answered ≡ counted 9 (length (repairsOf checks word)) (unmetCount checks word))
+      × (messageAfter answered (messageIn p l matrix) before ≡ before)
+  when-unmet some =
+      let t : stuck checks word ≡ true = unmet-stuck checks word some in
+      let nine : answered .number ≡ 9 = is-nine t in
+      (at-stuck t, refused-read answered (messageIn p l matrix) before (λ zero-is. omega arith))
 
 -- Whatever matrix is sampled, with whatever parameters, list and buffers, a read that reaches the checks mends by the rule, run from
 -- the received word to its end.
@@ -107,15 +121,17 @@ mends p l matrix before work reaching =
     let repairs : readAnswer p l matrix work (length before) .repairs ≡ length (repairsOf cs w) = repairs-reported p l matrix before work reaching in
     let unmet : readAnswer p l matrix work (length before) .unmet ≡ unmetCount cs w = unmet-reported p l matrix before work reaching in
     record {
+      whole = length-received p l matrix (length matrix) work (reaches-gives p l matrix work (length before) reaching .0);
       repaired = repairsOf cs w;
       last = lastWord cs w;
       steps = rule-steps cs w once bits;
+      lowers = rule-lowers cs w once bits;
       ended = rule-ends cs w once bits;
       only = rule-only cs w once bits;
       repairs-are = repairs;
       unmet-is = unmet;
       bounded = omega (arith, repairs, unmet, repairs-bounded cs w once bits);
-      is-stuck = nine-when p l matrix before work reaching;
+      is-stuck = when-unmet p l matrix before work reaching;
       when-stuck = λ nine. by (stuck cs w) (stuck-means cs w) (λ t. absurd (not-nine p l matrix before work reaching t nine));
       accepted = λ other. not-stuck cs w (is-mended p l matrix before work reaching other);
       goes-on = λ other. (at-mended p l matrix before work reaching (is-mended p l matrix before work reaching other), refl);

@@ -15,6 +15,7 @@ use Rattle.symbology.specs.Parameters.{rangeTests, inRange}
 use Rattle.symbology.specs.Capacity.{bitsPerModule}
 use Rattle.laws.proofs.Ranges.{and-left, and-right}
 
+-- the range of each parameter
 pub record InRange (p : Params) : Type 0 where
   pub kind-most : p .kind ≤ 1
   pub horizontal-least : 1 ≤ p .horizontal
@@ -59,7 +60,7 @@ either n e = go (eqb n 4) (eqb-true n 4) e
 different : (a b : ℕ) → not (eqb a b) ≡ true → a ≡ b → ⊥
 different a b e = eqb-false a b (not-true (eqb a b) e)
 
--- parameters that pass test 1 are in their ranges
+-- Parameters that pass test 1 are in their ranges.
 pub ranges : (p : Params) → inRange p ≡ true → InRange p
 unfolding rangeTests inRange
 ranges p e =

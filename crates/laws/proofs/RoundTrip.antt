@@ -1,15 +1,15 @@
 -- Demand 2 about the definitions: what a write gives on legal input, and that a read of it gives the message back with no repair.
 -- Assumes nothing.
 use Prim.Native.Nat.{ℕ, suc, _-_, _*_, _≤_, _<_}
-use mathlib.Core.Path.{_≡_, refl, ap, _∙_}
-use mathlib.Core.Bool.{true, false, cond}
+use mathlib.Core.Path.{_≡_, refl, sym, ap, _∙_}
+use mathlib.Core.Bool.{Bool, true, false, cond}
 use mathlib.Core.List.{List, [], _∷_, _++_}
 use native.Mathlib.Nat.{mul-comm}
 use native.Mathlib.Omega.{arith}
 use lib.Dec.{eqb}
 use lib.ListN.{length, take, drop, length-append}
 use lib.Seq.{take-at}
-use borrow.Author.Tests.{le-ltb, lt-ltb}
+use borrow.Author.Tests.{eqb-true, le-ltb, lt-ltb}
 use Rattle.symbology.specs.declared.Params.{Params}
 use Rattle.symbology.specs.declared.Sizes.{Sizes}
 use Rattle.symbology.specs.declared.Answer.{Answer}
@@ -26,7 +26,7 @@ use Rattle.symbology.specs.Tests.{Row, on, firstOf, frontTests, sizesFor}
 use Rattle.symbology.specs.Write.{matrixFor, codewordFor, placedBits, writtenMatrix, answer, writeTests, writeAnswer, matrixAfterWrite, isLegal}
 use Rattle.symbology.specs.Read.{refused, done, receivedBits, receivedWord, checksFor, answerFromAccepted, answerFromReceived, answerFromMatrix, readAnswer, messageInAccepted, messageIn, messageAfter}
 use Rattle.laws.proofs.Bits.{append-bits}
-use Rattle.laws.proofs.Tests.{Legal, legal, front-passed, first-append}
+use Rattle.laws.proofs.Tests.{Legal, legal, front-legal, front-passed, first-append}
 use Rattle.laws.proofs.Sizes.{gross-most}
 use Rattle.laws.proofs.Reserved.{sound-list}
 use Rattle.laws.proofs.Placement.{length-filled, no-bad-module}
@@ -72,12 +72,12 @@ module _ (p : Params) (l message : List ℕ) (modules room : ℕ) (k : Legal p l
       let few : length (word ++ end) ≤ 4096 = omega (arith, whole, k .most) in
       ap (λ (x : List ℕ). unshuffled 0 interleavingSeed x) same ∙ unshuffled-shuffled 0 interleavingSeed (word ++ end) few
 
-  -- It has the length that test 4 asks for,
+  -- A written matrix has the length that test 4 asks for.
   pub written-length : length (writtenMatrix p l message) ≡ sizesFor p l .columns * sizesFor p l .rows
   unfolding writtenMatrix sizesOf
   written-length = length-filled p l (placedBits (sizesFor p l) net) ∙ mul-comm (rows p) (columns p)
 
-  -- and each of its modules is below N.
+  -- Each module of a written matrix is below N.
   pub written-below : firstBadModule (p .colours) (writtenMatrix p l message) ≡ length (writtenMatrix p l message)
   unfolding writtenMatrix
   written-below =
@@ -116,7 +116,7 @@ module _ (p : Params) (l message : List ℕ) (modules room : ℕ) (k : Legal p l
       ∙ from-accepted s word net spare 0 0 space full (symbol-message p l modules room k net are-bits full)
       ∙ from-net (s .net) message 0 0 space bytes long
 
-  -- and its bytes are the message.
+  -- The bytes read from a written matrix are the message.
   pub write-read-bytes : AllBytes message → length (byteStream message) < sizesFor p l .net → messageIn p l (writtenMatrix p l message) ≡ message
   unfolding messageIn receivedWord
   write-read-bytes bytes fits =
@@ -142,6 +142,7 @@ pub record WritesAndReads (p : Params) (l message matrix : List ℕ) (work : ℕ
       → (writeAnswer p l message (length matrix) work ≡ answer 0 0) × (matrixAfterWrite p l message work matrix ≡ writtenMatrix p l message)
   -- and a read of it gives the message back, with no repair and no unmet check
   pub read-back : (readWork : ℕ) (buffer : List ℕ)
+      → AllBytes message
       → suc (length (byteStream message)) ≤ sizesFor p l .net
       → sizesFor p l .work ≤ readWork
       → length message ≤ length buffer
@@ -180,15 +181,15 @@ module _ (p : Params) (l message matrix : List ℕ) (work : ℕ) (k : Legal p l 
       let zero-is : writeAnswer p l message (length matrix) work ≡ answer 0 0 = write-legal ∙ rw (le-ltb (sizesFor p l .net) (suc (length (byteStream message))) h) refl in
       (zero-is, matrix-at (answer 0 0) zero-is)
 
-  read-written : AllBytes message
-      → (readWork : ℕ) (buffer : List ℕ)
+  read-written : (readWork : ℕ) (buffer : List ℕ)
+      → AllBytes message
       → suc (length (byteStream message)) ≤ sizesFor p l .net
       → sizesFor p l .work ≤ readWork
       → length message ≤ length buffer
       → let a = readAnswer p l after readWork (length buffer) in
       (a ≡ done (length message) 0 0) × (messageAfter a (messageIn p l after) buffer ≡ message ++ drop (length message) buffer)
   unfolding messageAfter
-  read-written bytes readWork buffer fits enough long =
+  read-written readWork buffer bytes fits enough long =
       let same : after ≡ writtenMatrix p l message = write-done fits .1 in
       let answered : readAnswer p l (writtenMatrix p l message) readWork (length buffer) ≡ done (length message) 0 0 = write-read p l message (length matrix) work k readWork (length buffer) enough bytes fits long in
       let read : readAnswer p l after readWork (length buffer) ≡ done (length message) 0 0 = ap (λ (x : List ℕ). readAnswer p l x readWork (length buffer)) same ∙ answered in
@@ -199,12 +200,35 @@ module _ (p : Params) (l message matrix : List ℕ) (work : ℕ) (k : Legal p l 
 -- the matrix is the defined one, and a read of it gives back its message with no repair.
 pub writes-and-reads : (p : Params) (l message matrix : List ℕ) (work : ℕ)
     → isLegal p l (length matrix) work ≡ true
-    → AllBytes message
     → WritesAndReads p l message matrix work
-writes-and-reads p l message matrix work e bytes =
+writes-and-reads p l message matrix work e =
     let k : Legal p l (length matrix) work = legal p l (length matrix) work e in
     record {
       denied = write-denied p l message matrix work k;
       written = write-done p l message matrix work k;
-      read-back = read-written p l message matrix work k bytes;
+      read-back = read-written p l message matrix work k;
     }
+
+-- ---- every write
+
+-- a write that is done was legal
+done-legal : (p : Params) (l message : List ℕ) (modules work : ℕ) → writeAnswer p l message modules work .number ≡ 0 → Legal p l modules work
+unfolding writeAnswer writeTests
+done-legal p l message modules work e =
+    let row : List (Row Answer) = on (exceeds (length (byteStream message)) (sizesFor p l .net)) (answer 6 0) ∷ [] in
+    let number : Answer → ℕ = λ a. a .number in
+    let same : number (firstOf (frontTests answer p l modules work) (firstOf row (answer 0 0))) ≡ 0 = sym (ap number (first-append (frontTests answer p l modules work) row (answer 0 0))) ∙ e in
+    front-legal answer number p l modules work (firstOf row (answer 0 0)) (λ n place. refl) same .0
+
+-- A write, done or refused, leaves the matrix as long as it came.
+pub length-write : (p : Params) (l message matrix : List ℕ) (work : ℕ) → length (matrixAfterWrite p l message work matrix) ≡ length matrix
+unfolding matrixAfterWrite
+length-write p l message matrix work =
+    let n : ℕ = writeAnswer p l message (length matrix) work .number in
+    go (eqb n 0) (eqb-true n 0)
+  where
+    go : (t : Bool) → (t ≡ true → writeAnswer p l message (length matrix) work .number ≡ 0) → length (cond t (writtenMatrix p l message) matrix) ≡ length matrix
+    go true zero-is =
+        let k : Legal p l (length matrix) work = done-legal p l message (length matrix) work (zero-is refl) in
+        written-length p l message (length matrix) work k ∙ sym (k .whole)
+    go false zero-is = refl

@@ -22,7 +22,7 @@ use Rattle.laws.proofs.Placement.{length-sampled}
 use Rattle.laws.proofs.DataModules.{data-count}
 use Rattle.laws.proofs.Spare.{enough-columns}
 
--- the data modules hold the C bits of the capacity
+-- The data modules hold the C bits of the capacity.
 pub capacity-is : (p : Params) (l : List ℕ) (modules room : ℕ)
     → Legal p l modules room
     → bitsPerModule (p .colours) * sumFrom 0 (columns p) (columnData p l (rows p)) ≡ sizesFor p l .capacity
@@ -54,7 +54,7 @@ gross-parts p l modules room k =
     let both : p .wr - p .wc + p .wc ≡ p .wr = omega arith in
     sym (mul-add t (p .wr - p .wc) (p .wc)) ∙ ap (λ (x : ℕ). t * x) both
 
--- the net bits have message columns to stand in
+-- Every legal symbol has at least Pn message columns, so that its net bits have columns to stand in.
 pub net-fits : (p : Params) (l : List ℕ) (modules room : ℕ)
     → Legal p l modules room
     → let s = sizesFor p l in

@@ -40,7 +40,7 @@ from-net n message repairs unmet room bytes fits =
     let back : decode (streamIn (withEndMark n stream)) ≡ record { number = 0; bytes = message } = ap decode (net-back n stream) ∙ stream-back message bytes in
     rw (net-some n stream, back, le-ltb room (length message) fits)
 
--- a stream's number that is not 0 is 12 or 13
+-- a stream's number that is not 0 is one of 10 to 14, which is all that is used of it
 refusing : (n : ℕ) → (n ≡ 0) ⊎ (n ≡ 12) ⊎ (n ≡ 13) → not (eqb n 0) ≡ true → (10 ≤ n) × (n ≤ 14)
 refusing n (inl e) t = absurd (eqb-false n 0 (not-true (eqb n 0) t) e)
 refusing n (inr (inl e)) t = (omega arith, omega arith)
@@ -171,11 +171,11 @@ from-matrix p l matrix w room good received long =
     rw (good, le-ltb (length matrix) (length matrix) (omega arith), front, behind, same-self end)
 
 -- A read that reaches the checks is legal, and its answer is the one from its received word.
-pub reaches : (p : Params) (l matrix : List ℕ) (work room : ℕ)
+pub reaches-gives : (p : Params) (l matrix : List ℕ) (work room : ℕ)
     → reachesChecks p l matrix work ≡ true
     → Legal p l (length matrix) work × (readAnswer p l matrix work room ≡ answerFromReceived (sizesFor p l) (receivedWord p l matrix) room)
 unfolding reachesChecks testsBeforeChecks readAnswer answerFromMatrix receivedWord
-reaches p l matrix work room e =
+reaches-gives p l matrix work room e =
     let s : Sizes = sizesFor p l in
     let P : ReadAnswer → Type 0 = λ a. a .number ≡ 0 in
     let number : ReadAnswer → ℕ = λ a. a .number in
@@ -197,8 +197,8 @@ reaches p l matrix work room e =
           ∙ first-none next,
     )
 
--- the answer of a read is that of the tests 1 to 8, or the one from its received word
-read-tests : (p : Params) (l matrix : List ℕ) (work room : ℕ)
+-- The answer of a read is that of the tests 1 to 8, or the one from its received word.
+pub read-tests : (p : Params) (l matrix : List ℕ) (work room : ℕ)
     → readAnswer p l matrix work room
     ≡ firstOf (testsBeforeChecks p l matrix work) (answerFromReceived (sizesFor p l) (receivedWord p l matrix) room)
 unfolding testsBeforeChecks readAnswer answerFromMatrix receivedWord
@@ -249,11 +249,11 @@ early-number p l matrix work =
     early-keeps (λ (a : ReadAnswer). a .number ≤ 8) p l matrix work (refused 0 0) (λ k place low high no6 at. high) (omega arith)
 
 -- A read whose answer is none of 1 to 8 has reached the checks.
-pub reached : (p : Params) (l matrix : List ℕ) (work room : ℕ)
+pub reaches-when : (p : Params) (l matrix : List ℕ) (work room : ℕ)
     → (readAnswer p l matrix work room .number ≡ 0) ⊎ (9 ≤ readAnswer p l matrix work room .number)
     → reachesChecks p l matrix work ≡ true
 unfolding reachesChecks
-reached p l matrix work room given =
+reaches-when p l matrix work room given =
     let tests : List (Row ReadAnswer) = testsBeforeChecks p l matrix work in
     let early : ReadAnswer = firstOf tests (refused 0 0) in
     by (eqb (early .number) 0) (λ e. e) (λ e. absurd (go (first-either tests) (eqb-false (early .number) 0 e) given))
@@ -269,3 +269,12 @@ reached p l matrix work room given =
         let same : readAnswer p l matrix work room ≡ firstOf (testsBeforeChecks p l matrix work) (refused 0 0) = read-tests p l matrix work room ∙ one .1 next ∙ sym (one .1 (refused 0 0)) in
         let number : readAnswer p l matrix work room .number ≡ firstOf (testsBeforeChecks p l matrix work) (refused 0 0) .number = ap (λ (a : ReadAnswer). a .number) same in
         ⊎-elim (λ z. some (sym number ∙ z)) (λ z. omega (arith, number, z, early-number p l matrix work)) answered
+
+-- The answer of a read that reaches the checks is none of 1 to 8.
+pub reaches-only : (p : Params) (l matrix : List ℕ) (work room : ℕ)
+    → reachesChecks p l matrix work ≡ true
+    → (readAnswer p l matrix work room .number ≡ 0) ⊎ (9 ≤ readAnswer p l matrix work room .number)
+reaches-only p l matrix work room e =
+    let Q : ReadAnswer → Type 0 = λ a. (a .number ≡ 0) ⊎ (9 ≤ a .number) in
+    subst⁻¹ Q (reaches-gives p l matrix work room e .1)
+    (received-keeps Q (sizesFor p l) (receivedWord p l matrix) room (λ k low high. inr low) (λ fits. inl refl))

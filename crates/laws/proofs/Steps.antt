@@ -11,7 +11,7 @@ use lib.ListN.{length, getD}
 use borrow.Author.Tests.{ltb-true, ltb-false, lt-ltb, le-ltb}
 use Rattle.symbology.specs.Bits.{AllBits}
 use Rattle.symbology.specs.Rule.{bitSum, unmet, unmetCount, suspect, turned, ends, repairs, afterTurns, repairsOf, lastWord, stuck}
-use Rattle.symbology.specs.Mending.{LowestSuspect, Steps, Ended}
+use Rattle.symbology.specs.Mending.{LowestSuspect, Steps, Lowers, Ended}
 use Rattle.laws.proofs.Ranges.{by}
 use Rattle.laws.proofs.Rule.{AllOnce, length-turned, turned-bits, step-lowers, suspect-lowest, lowest-suspect, ends-means, goes-means, ended-ends}
 
@@ -43,13 +43,20 @@ last-bits cs w b = after-bits w (repairsOf cs w) b
 pub steps-turn : (cs : List (List ℕ)) (w js v : List ℕ) → Steps cs w js v → afterTurns w js ≡ v
 unfolding Steps afterTurns
 steps-turn cs w [] v s = s
-steps-turn cs w (j ∷ js) v s = steps-turn cs (turned w j) js v (s .3)
+steps-turn cs w (j ∷ js) v s = steps-turn cs (turned w j) js v (s .2)
 
--- Steps of the rule lower the unmet count by at least their number.
-pub steps-bounded : (cs : List (List ℕ)) (w js v : List ℕ) → Steps cs w js v → length js + unmetCount cs v ≤ unmetCount cs w
-unfolding Steps
-steps-bounded cs w [] v s = omega (arith, ap (unmetCount cs) s)
-steps-bounded cs w (j ∷ js) v s = omega (arith, s .2, steps-bounded cs (turned w j) js v (s .3))
+-- Each step of the rule lowers the number of unmet checks.
+pub steps-lower : (cs : List (List ℕ)) (w js v : List ℕ) → AllOnce cs → AllBits w → Steps cs w js v → Lowers cs w js
+unfolding Steps Lowers
+steps-lower cs w [] v o b s = tt
+steps-lower cs w (j ∷ js) v o b s =
+    (step-lowers cs w j o b (s .1 .inside) (s .1 .suspected), steps-lower cs (turned w j) js v o (turned-bits w j b) (s .2))
+
+-- Turns that each lower the number of unmet checks lower it by at least their number.
+pub lowers-bounded : (cs : List (List ℕ)) (w js : List ℕ) → Lowers cs w js → length js + unmetCount cs (afterTurns w js) ≤ unmetCount cs w
+unfolding Lowers afterTurns
+lowers-bounded cs w [] s = omega arith
+lowers-bounded cs w (j ∷ js) s = omega (arith, s .0, lowers-bounded cs (turned w j) js (s .1))
 
 -- where the rule ends there is no step
 no-step : (cs : List (List ℕ)) (w : List ℕ) (j : ℕ) → Ended cs w → 0 < unmetCount cs w → LowestSuspect cs w j → ⊥
@@ -65,8 +72,8 @@ steps-only cs w [] v (k ∷ ks) v′ s e s′ e′ = absurd (no-step cs w k (sub
 steps-only cs w (j ∷ js) v [] v′ s e s′ e′ = absurd (no-step cs w j (subst⁻¹ (Ended cs) s′ e′) (s .0) (s .1))
 steps-only cs w (j ∷ js) v (k ∷ ks) v′ s e s′ e′ =
     let same : k ≡ j = sym (lowest-suspect cs w k (s′ .1)) ∙ lowest-suspect cs w j (s .1) in
-    let later : Steps cs (turned w j) ks v′ = subst (λ (i : ℕ). Steps cs (turned w i) ks v′) same (s′ .3) in
-    let rest : (js ≡ ks) × (v ≡ v′) = steps-only cs (turned w j) js v ks v′ (s .3) e later e′ in
+    let later : Steps cs (turned w j) ks v′ = subst (λ (i : ℕ). Steps cs (turned w i) ks v′) same (s′ .2) in
+    let rest : (js ≡ ks) × (v ≡ v′) = steps-only cs (turned w j) js v ks v′ (s .2) e later e′ in
     (rw (same, rest .0) refl, rest .1)
 
 -- ---- the run
@@ -91,13 +98,13 @@ run-end : (cs : List (List ℕ)) (w : List ℕ) → Ended cs w → Run cs w []
 unfolding Steps afterTurns
 run-end cs w e = (refl, e)
 
-run-more : (cs : List (List ℕ)) (w js : List ℕ) → AllOnce cs → AllBits w → ends cs w ≡ false
+run-more : (cs : List (List ℕ)) (w js : List ℕ) → ends cs w ≡ false
     → Run cs (turned w (suspect cs w)) js → Run cs w (suspect cs w ∷ js)
 unfolding Steps afterTurns
-run-more cs w js o b e r =
+run-more cs w js e r =
     let some : (0 < unmetCount cs w) × (suspect cs w < length w) = goes-means cs w e in
     let s : LowestSuspect cs w (suspect cs w) = suspect-lowest cs w (some .1) in
-    ((some .0, s, step-lowers cs w (suspect cs w) o b (some .1) (s .suspected), r .0), r .1)
+    ((some .0, s, r .0), r .1)
 
 -- with fuel for each unmet check the run comes to its end
 runs : (cs : List (List ℕ)) (n : ℕ) (w : List ℕ) → AllOnce cs → AllBits w → unmetCount cs w ≤ n → Run cs w (repairs cs n w)
@@ -109,12 +116,16 @@ runs cs (suc n) w o b h =
     let some : (0 < unmetCount cs w) × (j < length w) = goes-means cs w e in
     let less : unmetCount cs (turned w j) < unmetCount cs w = step-lowers cs w j o b (some .1) (suspect-lowest cs w (some .1) .suspected) in
     let later : Run cs (turned w j) (repairs cs n (turned w j)) = runs cs n (turned w j) o (turned-bits w j b) (omega arith) in
-    subst⁻¹ (Run cs w) (repairs-more cs n w e) (run-more cs w (repairs cs n (turned w j)) o b e later))
+    subst⁻¹ (Run cs w) (repairs-more cs n w e) (run-more cs w (repairs cs n (turned w j)) e later))
 
 -- The defined run consists of steps of the rule.
 pub rule-steps : (cs : List (List ℕ)) (w : List ℕ) → AllOnce cs → AllBits w → Steps cs w (repairsOf cs w) (lastWord cs w)
 unfolding repairsOf lastWord
 rule-steps cs w o b = runs cs (unmetCount cs w) w o b (omega arith) .0
+
+-- Each step of the defined run lowers the number of unmet checks.
+pub rule-lowers : (cs : List (List ℕ)) (w : List ℕ) → AllOnce cs → AllBits w → Lowers cs w (repairsOf cs w)
+rule-lowers cs w o b = steps-lower cs w (repairsOf cs w) (lastWord cs w) o b (rule-steps cs w o b)
 
 -- The defined run comes to the rule's end: it has fuel enough.
 pub rule-ends : (cs : List (List ℕ)) (w : List ℕ) → AllOnce cs → AllBits w → Ended cs (lastWord cs w)
@@ -128,7 +139,7 @@ rule-only cs w o b js v s e = steps-only cs w js v (repairsOf cs w) (lastWord cs
 
 -- There are no more repairs than there were unmet checks.
 pub repairs-bounded : (cs : List (List ℕ)) (w : List ℕ) → AllOnce cs → AllBits w → length (repairsOf cs w) ≤ unmetCount cs w
-repairs-bounded cs w o b = omega (arith, steps-bounded cs w (repairsOf cs w) (lastWord cs w) (rule-steps cs w o b))
+repairs-bounded cs w o b = omega (arith, lowers-bounded cs w (repairsOf cs w) (rule-lowers cs w o b))
 
 -- Where all checks hold, no bit is turned.
 pub untouched : (cs : List (List ℕ)) (w : List ℕ) → unmetCount cs w ≡ 0 → repairsOf cs w ≡ []
@@ -190,7 +201,7 @@ run-goes cs w o b e =
     let j : ℕ = suspect cs w in
     let v : List ℕ = turned w j in
     let later : Run cs v (repairsOf cs v) = (rule-steps cs v o (turned-bits w j b), rule-ends cs v o (turned-bits w j b)) in
-    let r : Run cs w (j ∷ repairsOf cs v) = run-more cs w (repairsOf cs v) o b e later in
+    let r : Run cs w (j ∷ repairsOf cs v) = run-more cs w (repairsOf cs v) e later in
     let same : (j ∷ repairsOf cs v ≡ repairsOf cs w) × (lastWord cs v ≡ lastWord cs w)
     = rule-only cs w o b (j ∷ repairsOf cs v) (lastWord cs v) (r .0) (r .1) in
     (sym (same .0), sym (same .1))

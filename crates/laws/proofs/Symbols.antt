@@ -1,6 +1,6 @@
 -- The laws of layout and code at the sizes of every legal symbol: parameters, list and buffers that pass the tests 1 to 5.
 -- Assumes nothing.
-use Prim.Native.Nat.{ℕ, _-_, _*_, _≤_, _<_}
+use Prim.Native.Nat.{ℕ, _+_, _-_, _*_, _≤_, _<_}
 use mathlib.Core.Path.{_≡_, sym, ap, _∙_}
 use mathlib.Core.List.{List, [], _++_}
 use native.Mathlib.Nat.{le-trans}
@@ -8,22 +8,23 @@ use native.Mathlib.Omega.{arith}
 use lib.ListN.{length, getD, replicate}
 use Rattle.symbology.specs.declared.Params.{Params}
 use Rattle.symbology.specs.declared.Sizes.{Sizes}
-use Rattle.symbology.specs.Ranges.{those, sumFrom}
+use Rattle.symbology.specs.Ranges.{tally, those, sumFrom, has}
 use Rattle.symbology.specs.Bits.{AllBits}
 use Rattle.symbology.specs.Sides.{columns, rows}
 use Rattle.symbology.specs.Reserved.{entries}
 use Rattle.symbology.specs.Capacity.{dataModules, sizesOf}
 use Rattle.symbology.specs.Matrix.{matrixSeed, checkOf, checksOf}
-use Rattle.symbology.specs.Placement.{columnData, filled, sampled}
+use Rattle.symbology.specs.Placement.{filled, sampled}
 use Rattle.symbology.specs.Tests.{sizesFor}
 use Rattle.symbology.specs.Write.{matrixFor, codewordFor}
 use Rattle.symbology.specs.Rule.{unmetCount}
 use Rattle.symbology.specs.Codeword.{messageColumns}
 use Rattle.symbology.specs.Read.{checksFor, messageBitsFor}
-use Rattle.laws.proofs.Ranges.{getD-tabulate}
+use Rattle.laws.proofs.Ranges.{getD-tabulate, has-those}
+use Rattle.laws.proofs.Counting.{number-ext}
 use Rattle.laws.proofs.Tests.{Legal}
 use Rattle.laws.proofs.Reserved.{sound-list}
-use Rattle.laws.proofs.DataModules.{data-count}
+use Rattle.laws.proofs.DataModules.{free, data-free, data-count}
 use Rattle.laws.proofs.Placement.{filled-below, sampled-filled}
 use Rattle.laws.proofs.Matrix.{column-weight, check-weight}
 use Rattle.laws.proofs.Rule.{Ascending, check-ascends}
@@ -34,10 +35,11 @@ module _ (p : Params) (l : List ℕ) (modules room : ℕ) (legal : Legal p l mod
   -- ---- layout
 
   -- The modules that are neither pattern nor entry number exactly D.
-  pub symbol-modules : sumFrom 0 (columns p) (columnData p l (rows p)) ≡ dataModules (p .kind) (p .horizontal) (p .vertical) (entries l) .0
-  symbol-modules = data-count p l (legal .in-range) (legal .sound)
+  pub symbol-modules : sumFrom 0 (columns p) (λ c. sumFrom 0 (rows p) (λ r. tally (free p l (entries l) (c + 1) (r + 1))))
+      ≡ dataModules (p .kind) (p .horizontal) (p .vertical) (entries l) .0
+  symbol-modules = sym (data-free p l) ∙ data-count p l (legal .in-range) (legal .sound)
 
-  -- Sampling what was filled with the C bits of the capacity gives them back.
+  -- Sampling what was filled with the C bits of the capacity gives them back, for every mask.
   pub symbol-back : (bs : List ℕ) → AllBits bs → length bs ≡ sizesFor p l .capacity → sampled p l (filled p l bs) ≡ bs
   symbol-back bs bits long = sampled-filled p l bs bits (long ∙ sym (capacity-is p l modules room legal))
 
@@ -47,12 +49,23 @@ module _ (p : Params) (l : List ℕ) (modules room : ℕ) (legal : Legal p l mod
 
   -- ---- the check matrix
 
-  -- Each column of A stands in exactly wc checks.
-  pub symbol-columns : (j : ℕ) → j < sizesFor p l .gross → length (those (sizesFor p l .checks) (λ i. matrixFor (sizesFor p l) i j)) ≡ p .wc
+  -- Each column of A has exactly wc ones.
+  symbol-ones : (j : ℕ) → j < sizesFor p l .gross → length (those (sizesFor p l .checks) (λ i. matrixFor (sizesFor p l) i j)) ≡ p .wc
   unfolding sizesOf
-  symbol-columns j h = column-weight matrixSeed (sizesFor p l .block) (p .wr) (p .wc) j h
+  symbol-ones j h = column-weight matrixSeed (sizesFor p l .block) (p .wr) (p .wc) j h
 
-  -- Each check names wr columns,
+  -- Each column of A stands in exactly wc checks.
+  pub symbol-columns : (j : ℕ)
+      → j < sizesFor p l .gross
+      → length (those (sizesFor p l .checks) (λ i. has j (getD (checksFor (sizesFor p l)) i []))) ≡ p .wc
+  unfolding checksFor checksOf checkOf
+  symbol-columns j h =
+      let s : Sizes = sizesFor p l in
+      number-ext (λ i. has j (getD (checksFor s) i [])) (λ i. matrixFor s i j) (s .checks)
+      (λ i g. ap (has j) (getD-tabulate (s .checks) (checkOf (s .gross) (matrixFor s)) [] i g) ∙ has-those (matrixFor s i) (s .gross) j h)
+      ∙ symbol-ones j h
+
+  -- Each check names wr columns.
   pub symbol-checks : (i : ℕ) → i < sizesFor p l .checks → length (getD (checksFor (sizesFor p l)) i []) ≡ p .wr
   unfolding sizesOf checksFor checksOf
   symbol-checks i h =
@@ -60,7 +73,7 @@ module _ (p : Params) (l : List ℕ) (modules room : ℕ) (legal : Legal p l mod
       ap length (getD-tabulate (s .checks) (checkOf (s .gross) (matrixFor s)) [] i h)
       ∙ check-weight matrixSeed (s .block) (p .wr) (p .wc) i (le-trans (gross-most p l) (legal .most)) h
 
-  -- in ascending order, so that no two are the same.
+  -- The columns that a check names ascend, so that no two are the same.
   pub symbol-ascends : (i : ℕ) → i < sizesFor p l .checks → Ascending (getD (checksFor (sizesFor p l)) i [])
   unfolding checksFor checksOf
   symbol-ascends i h =
@@ -69,30 +82,30 @@ module _ (p : Params) (l : List ℕ) (modules room : ℕ) (legal : Legal p l mod
 
   -- ---- the codeword
 
-  -- The codeword of net bits has Pg bits, carries them in the message columns and meets every check;
+  -- The codeword of net bits has Pg bits, carries them in the message columns and meets every check.
   pub symbol-codeword : (net : List ℕ)
       → AllBits net
       → IsCodeword (sizesFor p l .checks) (sizesFor p l .gross) (matrixFor (sizesFor p l)) net (codewordFor (sizesFor p l) net)
   unfolding codewordFor
   symbol-codeword net bits = codeword-is (sizesFor p l .checks) (sizesFor p l .gross) (matrixFor (sizesFor p l)) net bits
 
-  -- in other words, it has Pg bits
+  -- The codeword of net bits has Pg bits.
   pub symbol-wide : (net : List ℕ) → AllBits net → length (codewordFor (sizesFor p l) net) ≡ sizesFor p l .gross
   symbol-wide net bits = symbol-codeword net bits .wide
 
-  -- and leaves no check unmet;
+  -- No check is unmet in the codeword of net bits.
   pub symbol-meets : (net : List ℕ) → AllBits net → unmetCount (checksFor (sizesFor p l)) (codewordFor (sizesFor p l) net) ≡ 0
   unfolding checksFor
   symbol-meets net bits = symbol-codeword net bits .met
 
-  -- it is the only such word;
+  -- No other word of Pg bits carries the net bits and meets every check.
   pub symbol-only : (net w : List ℕ)
       → IsCodeword (sizesFor p l .checks) (sizesFor p l .gross) (matrixFor (sizesFor p l)) net w
       → codewordFor (sizesFor p l) net ≡ w
   unfolding codewordFor
   symbol-only net w is = codeword-found is
 
-  -- and Pn net bits are read back from its message columns, with 0 in the spare ones.
+  -- Pn net bits are read back from the message columns of their codeword, with 0 in the spare ones.
   pub symbol-message : (net : List ℕ)
       → AllBits net
       → length net ≡ sizesFor p l .net

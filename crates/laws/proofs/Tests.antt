@@ -7,6 +7,7 @@ use mathlib.Core.Logic.{_⊎_, inl, inr}
 use mathlib.Core.List.{List, [], _∷_, _++_}
 use native.Mathlib.Nat.{le-of-suc-le-suc}
 use native.Mathlib.Omega.{arith}
+use native.Mathlib.Decide.{decLt}
 use lib.Dec.{eqb, ltb}
 use lib.ListN.{length, getD}
 use borrow.Author.Tests.{ltb-false, eqb-true, not-false, le-ltb, eq-eqb}
@@ -15,11 +16,12 @@ use Rattle.symbology.specs.declared.Sizes.{Sizes}
 use Rattle.symbology.specs.declared.Answer.{Answer}
 use Rattle.symbology.specs.declared.ListVerdict.{ListVerdict}
 use Rattle.symbology.specs.declared.ListVerdict.the-variants.{Sound, Fault}
+use Rattle.symbology.specs.Ranges.{lowest}
 use Rattle.symbology.specs.Parameters.{inRange}
 use Rattle.symbology.specs.Reserved.{listVerdict, listNumber, listPlace}
 use Rattle.symbology.specs.Tests.{Row, on, firstOf, sizesFor, sizeTests, bufferTests, frontTests}
 use Rattle.symbology.specs.Write.{answer, isLegal}
-use Rattle.laws.proofs.Ranges.{by, clash, or-left, or-right}
+use Rattle.laws.proofs.Ranges.{by, clash, or-left, or-right, lowest-holds, lowest-before}
 
 -- ---- tables
 
@@ -44,7 +46,7 @@ module _ {A : Type 0} where
   first-append [] ss d = refl
   first-append (r ∷ rs) ss d = ap (λ (x : A). cond (r .test) (r .gives) x) (first-append rs ss d)
 
-  -- A row's answer is given exactly where its test holds and no test before it does,
+  -- A row's answer is given where its test holds and no test before it does.
   pub first-given : (rs : List (Row A)) (d : A) (z : Row A) (i : ℕ)
       → i < length rs
       → getD rs i z .test ≡ true
@@ -55,11 +57,23 @@ module _ {A : Type 0} where
   first-given (r ∷ rs) d z (suc i) h holds none =
       first-miss r rs d (none 0 (omega arith)) ∙ first-given rs d z i (le-of-suc-le-suc h) holds (λ j k. none (suc j) (omega arith))
 
-  -- and the last answer where no test holds.
+  -- The last answer is given where no test holds.
   pub first-other : (rs : List (Row A)) (d : A) (z : Row A) → ((j : ℕ) → j < length rs → getD rs j z .test ≡ false) → firstOf rs d ≡ d
   first-other [] d z none = first-none d
   first-other (r ∷ rs) d z none =
       first-miss r rs d (none 0 (omega arith)) ∙ first-other rs d z (λ j k. none (suc j) (omega arith))
+
+  -- There is no third way: a table has a first row whose test holds, or none.
+  pub first-row : (rs : List (Row A)) (z : Row A)
+      → ((i : ℕ) × (i < length rs) × (getD rs i z .test ≡ true) × ((j : ℕ) → j < i → getD rs j z .test ≡ false))
+      ⊎ ((j : ℕ) → j < length rs → getD rs j z .test ≡ false)
+  first-row rs z =
+      let f : ℕ → Bool = λ i. getD rs i z .test in
+      let i : ℕ = lowest f (length rs) 0 in
+      elim (decLt i (length rs)) [
+        | yes h ↦ inl (i, h, lowest-holds f (length rs) 0 (omega arith), λ j k. lowest-before f (length rs) 0 j (omega arith) k)
+        | no h ↦ inr (λ j k. lowest-before f (length rs) 0 j (omega arith) (omega arith))
+      ]
 
   -- an answer that the first row does not give comes from the other rows, and the first row's test fails
   pub first-beyond : (P : A → Type 0) (r : Row A) (rs : List (Row A)) (d : A)
@@ -161,7 +175,7 @@ front-legal {A} refusal number p l modules room d gives e =
     } in
     (k, at5 .1)
 
--- legal input passes each of the tests 1 to 5
+-- Legal input passes each of the tests 1 to 5.
 pub legal : (p : Params) (l : List ℕ) (modules room : ℕ) → isLegal p l modules room ≡ true → Legal p l modules room
 unfolding isLegal
 legal p l modules room e =
@@ -169,7 +183,7 @@ legal p l modules room e =
     let passed : firstOf (frontTests answer p l modules room) d .number ≡ 0 = eqb-true (firstOf (frontTests answer p l modules room) d .number) 0 e in
     front-legal answer (λ (a : Answer). a .number) p l modules room d (λ n place. refl) passed .0
 
--- the tests 1 to 5 refuse no legal input, whatever follows them
+-- The tests 1 to 5 refuse no legal input, whatever follows them.
 pub front-passed : {A : Type 0} (refusal : ℕ → ℕ → A) (p : Params) (l : List ℕ) (modules room : ℕ) (d : A)
     → Legal p l modules room
     → firstOf (frontTests refusal p l modules room) d ≡ d
@@ -179,7 +193,7 @@ front-passed refusal p l modules room d k =
     let c : ℕ = s .capacity in
     rw (k .in-range, sound-verdict (listVerdict p l) (k .sound), le-ltb c (p .wr) (k .least), le-ltb 4096 c (k .most), eq-eqb modules (s .columns * s .rows) (k .whole), le-ltb room (s .work) (k .enough))
 
--- what passes each of the tests 1 to 5 is legal
+-- What passes each of the tests 1 to 5 is legal.
 pub legal-is : (p : Params) (l : List ℕ) (modules room : ℕ) → Legal p l modules room → isLegal p l modules room ≡ true
 unfolding isLegal
 legal-is p l modules room k = ap (λ (a : Answer). eqb (a .number) 0) (front-passed answer p l modules room (answer 0 0) k)
