@@ -3,31 +3,20 @@
 use Prim.Native.Nat.{ℕ, zero, suc, _-_, _≤_, _<_}
 use mathlib.Core.Path.{_≡_, refl, ap, ap₂, _∙_}
 use mathlib.Core.Bool.{Bool, true, cond, not, _&&_, _||_, xor}
-use mathlib.Core.List.{List, [], _∷_, _++_, map}
+use mathlib.Core.List.{List, [], _∷_, map}
 use native.Mathlib.Omega.{arith}
 use lib.Dec.{eqb}
 use lib.ListN.{getD}
-use Rattle.symbology.specs.Ranges.{allBelow, those, has}
+use Rattle.symbology.specs.Ranges.{those, has}
 use Rattle.symbology.specs.Matrix.{BitMatrix, checkOf, checksOf}
 use Rattle.symbology.specs.Rule.{unmetCount}
 use Rattle.symbology.specs.Codeword.{isSum, checkColumns, isCheckColumn, messageColumns, carries, words, firstWord, codeword, messageBits}
-use Rattle.laws.proofs.Ranges.{tabulate-ext}
-use Rattle.laws.proofs.Columns.{column, has-first, has-wider, taken-last}
+use Rattle.laws.proofs.Ranges.{tabulate-ext, those-ext, has-first, has-wider, below-ext}
+use Rattle.laws.proofs.Columns.{column, taken-last}
 
 -- the matrices agree inside the bounds
 abbrev pub Agree : ℕ → ℕ → BitMatrix → BitMatrix → Type 0
 Agree k n a b = (i : ℕ) → i < k → (j : ℕ) → j < n → a i j ≡ b i j
-
-pub below-ext : (n : ℕ) (f g : ℕ → Bool) → ((i : ℕ) → i < n → f i ≡ g i) → allBelow n f ≡ allBelow n g
-unfolding allBelow
-below-ext zero f g h = refl
-below-ext (suc n) f g h = ap₂ _&&_ (below-ext n f g (λ i l. h i (omega arith))) (h n (omega arith))
-
-pub those-ext : (n : ℕ) (f g : ℕ → Bool) → ((i : ℕ) → i < n → f i ≡ g i) → those n f ≡ those n g
-unfolding those
-those-ext zero f g h = refl
-those-ext (suc n) f g h =
-    ap₂ (λ (l : List ℕ) (t : Bool). l ++ cond t (n ∷ []) []) (those-ext n f g (λ i l. h i (omega arith))) (h n (omega arith))
 
 sum-same : (k n : ℕ) (a b : BitMatrix) → Agree k n a b → (l : List ℕ) → ((c : ℕ) → has c l ≡ true → c < n)
     → (v w : ℕ → Bool) → ((i : ℕ) → i < k → v i ≡ w i) → isSum k (map (column a) l) v ≡ isSum k (map (column b) l) w
@@ -54,26 +43,29 @@ module _ (k n : ℕ) (a b : BitMatrix) (same : Agree k n a b) where
       ∙ ap (λ (l : List ℕ). isSum k (map (column b) l) (column b j)) earlier)
       earlier
 
+  -- Matrices that agree inside the bounds have the same check columns.
   pub check-same : (j : ℕ) → isCheckColumn k n a j ≡ isCheckColumn k n b j
   unfolding isCheckColumn
   check-same j = ap (has j) (columns-same n (omega arith))
 
+  -- They have the same message columns.
   pub messages-same : messageColumns k n a ≡ messageColumns k n b
   unfolding messageColumns
   messages-same = those-ext n (λ j. not (isCheckColumn k n a j)) (λ j. not (isCheckColumn k n b j)) (λ j h. ap not (check-same j))
 
+  -- They have the same checks.
   pub checks-same : checksOf k n a ≡ checksOf k n b
   unfolding checksOf checkOf
   checks-same = tabulate-ext k (λ i. those n (a i)) (λ i. those n (b i)) (λ i h. those-ext n (a i) (b i) (same i h))
 
-  -- Matrices that agree inside the bounds have the same codewords.
+  -- They have the same codewords.
   pub codeword-same : (m : List ℕ) → codeword k n a m ≡ codeword k n b m
   unfolding codeword
   codeword-same m =
       ap₂ (λ (columns : List ℕ) (checks : List (List ℕ)). firstWord (λ w. carries columns m w && eqb (unmetCount checks w) 0) (words n))
       messages-same checks-same
 
-  -- And the same bits of a word are message bits.
+  -- They have the same message bits in every word.
   pub message-same : (w : List ℕ) → messageBits k n a w ≡ messageBits k n b w
   unfolding messageBits
   message-same w = ap (map (λ j. getD w j 0)) messages-same

@@ -1,14 +1,20 @@
--- Laws of numbers as bits.
+-- Laws of numbers as bits, and of lists of bits and bytes.
 -- Assumes nothing.
 use Prim.Native.Nat.{ℕ, zero, suc, _+_, _*_, _/_, _%_, _^_, _≤_, _<_}
+use mathlib.Core.Bool.{Bool, true, false}
 use mathlib.Core.Path.{_≡_, refl, sym, ap, _∙_}
 use mathlib.Core.List.{List, [], _∷_, _++_}
 use native.Mathlib.Nat.{pow-suc, mul-assoc, mul-le-mul-right}
 use native.Mathlib.Numerals.{add-one}
 use native.Mathlib.Omega.{arith}
-use lib.ListN.{length, getD, take, drop, length-append}
+use lib.ListN.{length, getD, take, drop, length-append, replicate, length-take}
 use lib.Seq.{getD-drop, take-suc, take-length}
+use lib.Pow.{pow-mono}
+use lib.Dec.{eqb}
+use borrow.Author.Tests.{eqb-true, eqb-false}
+use Rattle.symbology.specs.Ranges.{joinFrom, tally}
 use Rattle.symbology.specs.Bits.{AllBits, value, bits}
+use Rattle.laws.proofs.Ranges.{by}
 
 pub length-bits : (w n : ℕ) → length (bits w n) ≡ w
 unfolding bits
@@ -70,11 +76,43 @@ bits-are (suc w) n = append-bits (bits w (n / 2)) (n % 2 ∷ []) (bits-are w (n 
     last zero = omega arith
     last (suc i) = omega arith
 
+-- what every element of a list has, and 0, which stands past its end, every element of its parts has
+pub take-every : (P : ℕ → Type 0) (n : ℕ) (a : List ℕ) → P 0 → ((i : ℕ) → P (getD a i 0)) → (i : ℕ) → P (getD (take n a) i 0)
+take-every P zero a z p i = z
+take-every P (suc n) [] z p i = z
+take-every P (suc n) (x ∷ a) z p zero = p 0
+take-every P (suc n) (x ∷ a) z p (suc i) = take-every P n a z (λ k. p (suc k)) i
+
+pub drop-every : (P : ℕ → Type 0) (n : ℕ) (a : List ℕ) → ((i : ℕ) → P (getD a i 0)) → (i : ℕ) → P (getD (drop n a) i 0)
+drop-every P n a p i = rw (getD-drop n a i 0) (p (n + i))
+
 pub take-bits : (n : ℕ) (a : List ℕ) → AllBits a → AllBits (take n a)
-take-bits zero a p i = omega arith
-take-bits (suc n) [] p i = omega arith
-take-bits (suc n) (x ∷ a) p zero = p 0
-take-bits (suc n) (x ∷ a) p (suc i) = take-bits n a (λ k. p (suc k)) i
+take-bits n a = take-every (λ (b : ℕ). b ≤ 1) n a (omega arith)
 
 pub drop-bits : (n : ℕ) (a : List ℕ) → AllBits a → AllBits (drop n a)
-drop-bits n a p i = rw (getD-drop n a i 0) (p (n + i))
+drop-bits n a = drop-every (λ (b : ℕ). b ≤ 1) n a
+
+pub zero-bits : (n : ℕ) → AllBits (replicate n 0)
+zero-bits zero i = omega arith
+zero-bits (suc n) zero = omega arith
+zero-bits (suc n) (suc i) = zero-bits n i
+
+pub join-bits : (f : ℕ → List ℕ) (a n : ℕ) → ((i : ℕ) → AllBits (f i)) → AllBits (joinFrom a n f)
+unfolding joinFrom
+join-bits f a zero h = λ i. omega arith
+join-bits f a (suc n) h = append-bits (f a) (joinFrom (suc a) n f) (h a) (join-bits f (suc a) n h)
+
+pub value-take : (n : ℕ) (bs : List ℕ) → value (take n bs) < 2 ^ n
+value-take n bs =
+    let few : length (take n bs) ≤ n = omega (arith, length-take n bs) in
+    omega (arith, value-lt (take n bs), pow-mono few)
+
+pub tally-bit : (x : ℕ) → x ≤ 1 → tally (eqb (x % 2) 1) ≡ x
+tally-bit x l =
+    by (eqb (x % 2) 1) (λ o. ap tally o ∙ (let e : x % 2 ≡ 1 = eqb-true (x % 2) 1 o in omega arith))
+    (λ z. ap tally z ∙ (let e : x % 2 ≡ 1 → ⊥ = eqb-false (x % 2) 1 z in omega arith))
+
+-- the test of a bit that stands for a Bool
+pub bit-tally : (b : Bool) → eqb (tally b % 2) 1 ≡ b
+bit-tally true = refl
+bit-tally false = refl

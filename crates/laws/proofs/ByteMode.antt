@@ -9,7 +9,7 @@ use native.Mathlib.Omega.{arith}
 use native.Mathlib.Decide.{decLt, ℕ-discrete}
 use lib.Dec.{ltb, eqb}
 use lib.ListN.{length, take, drop, length-append, length-drop, take-append-drop, drop-of-length-le}
-use lib.Seq.{take-at, drop-at, getD-drop, length-take-le, take-all}
+use lib.Seq.{take-at, drop-at, length-take-le, take-all}
 use borrow.Author.Tests.{lt-ltb, le-ltb, ne-eqb}
 use Rattle.symbology.specs.declared.Mode.{Mode}
 use Rattle.symbology.specs.declared.Mode.the-variants.{Upper}
@@ -20,7 +20,7 @@ use Rattle.symbology.specs.Ranges.{tabulate}
 use Rattle.symbology.specs.Characters.{upperCharacters, utf8Bytes, characterBytes}
 use Rattle.symbology.specs.Modes.{modeWidth, codeWidth, characterCount, directSwitches, moreSwitches, switchOf, charactersOf, bytesOf, endNumber}
 use Rattle.symbology.specs.Stream.{decode, byteBits, runCount, byteRun, byteRuns, byteStream}
-use Rattle.laws.proofs.Bits.{length-bits, value-bits, append-bits, bits-are}
+use Rattle.laws.proofs.Bits.{take-every, drop-every, length-bits, value-bits, append-bits, bits-are}
 use Rattle.laws.proofs.Stream.{width-some, readFrom, readOn, decode-from, read-step, read-short}
 
 -- ---- a run of bytes read back
@@ -96,13 +96,10 @@ run-back b bs rest out h few =
 -- ---- the whole stream read back
 
 take-bytes : (n : ℕ) (m : List ℕ) → AllBytes m → AllBytes (take n m)
-take-bytes zero m p i = omega arith
-take-bytes (suc n) [] p i = omega arith
-take-bytes (suc n) (x ∷ m) p zero = p 0
-take-bytes (suc n) (x ∷ m) p (suc i) = take-bytes n m (λ k. p (suc k)) i
+take-bytes n m = take-every (λ (b : ℕ). b < 256) n m (omega arith)
 
 drop-bytes : (n : ℕ) (m : List ℕ) → AllBytes m → AllBytes (drop n m)
-drop-bytes n m p i = rw (getD-drop n m i 0) (p (n + i))
+drop-bytes n m = drop-every (λ (b : ℕ). b < 256) n m
 
 take-few : (n : ℕ) (m : List ℕ) → length (take n m) ≤ n
 take-few zero m = omega arith
@@ -133,7 +130,7 @@ runs-back (suc n) (b ∷ bs) out h fits =
     first-back 8205 b bs (byteRuns n (drop 8205 bs)) out (omega arith) h
     (λ out. runs-back n (drop 8205 bs) out (drop-bytes 8205 bs (λ i. h (suc i))) (omega (arith, length-drop 8205 bs)))
 
--- the byte-mode stream of any list of bytes reads back as that list
+-- The byte-mode stream of any list of bytes reads back as that list.
 pub stream-back : (m : List ℕ) → AllBytes m → decode (byteStream m) ≡ record { number = 0; bytes = m }
 unfolding byteStream
 stream-back m h = decode-from (byteRuns (length m) m) ∙ runs-back (length m) m [] h (omega arith)

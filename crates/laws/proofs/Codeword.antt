@@ -12,17 +12,18 @@ use native.Mathlib.Decide.{ℕ-discrete, decLt}
 use lib.Dec.{eqb}
 use lib.ListN.{length, getD, drop, replicate, List·getD-eq-default}
 use lib.Seq.{getD-drop, drop-drop, ext-getD}
-use borrow.Author.Tests.{eq-eqb, eqb-true, eqb-false, not-true}
+use borrow.Author.Tests.{eq-eqb, eqb-true, not-true}
 use Rattle.symbology.specs.Ranges.{tally, those, tabulate}
 use Rattle.symbology.specs.Bits.{AllBits}
 use Rattle.symbology.specs.Matrix.{BitMatrix, checksOf}
 use Rattle.symbology.specs.Rule.{unmetCount}
 use Rattle.symbology.specs.Codeword.{isCheckColumn, messageColumns, carries, words, firstWord, codeword, messageBits}
-use Rattle.laws.proofs.Ranges.{by, clash, and-left, and-right, and-both, length-tabulate, getD-tabulate}
-use Rattle.laws.proofs.Gf2.{dot, Meets, meets-ext, bitAt, bit-same, bit-tally, unmet-meets, meets-none}
+use Rattle.laws.proofs.Ranges.{by, clash, and-left, and-right, and-both, length-tabulate, getD-tabulate, tally-le}
+use Rattle.laws.proofs.Gf2.{dot, Meets, meets-ext, bitAt, bit-same, unmet-meets, meets-none}
 use Rattle.laws.proofs.Kernel.{unique, exists}
 use Rattle.laws.proofs.Columns.{check-laws}
 use Rattle.laws.proofs.Elimination.{Inv, solved}
+use Rattle.laws.proofs.Bits.{bit-tally, tally-bit}
 
 -- ---- the message's bits in the message columns
 
@@ -218,11 +219,6 @@ module _ {k n : ℕ} {a : BitMatrix} {m : List ℕ} where
 
 -- ---- it exists
 
-tally-bit : (x : ℕ) → x ≤ 1 → tally (eqb (x % 2) 1) ≡ x
-tally-bit x l =
-    by (eqb (x % 2) 1) (λ o. ap tally o ∙ (let e : x % 2 ≡ 1 = eqb-true (x % 2) 1 o in omega arith))
-    (λ z. ap tally z ∙ (let e : x % 2 ≡ 1 → ⊥ = eqb-false (x % 2) 1 z in omega arith))
-
 module _ (k n : ℕ) (a : BitMatrix) (m : List ℕ) (bits : AllBits m) where
   -- the bit of the message that column c takes if it's a message column
   taken : ℕ → Bool
@@ -237,7 +233,7 @@ module _ (k n : ℕ) (a : BitMatrix) (m : List ℕ) (bits : AllBits m) where
   some-codeword = record {
     wide = length-tabulate n (λ c. tally (v c));
     are-bits = λ i. elim (decLt i n) [
-      | yes h ↦ rw (at i h) (small (v i))
+      | yes h ↦ rw (at i h) (tally-le (v i))
       | no h ↦ rw (List·getD-eq-default some-word 0 {n = i} (omega (arith, length-tabulate n (λ c. tally (v c))))) (omega arith)
     ];
     carried = carries-all n (λ j. not (isCheckColumn k n a j)) m some-word (λ c h t.
@@ -258,10 +254,6 @@ module _ (k n : ℕ) (a : BitMatrix) (m : List ℕ) (bits : AllBits m) where
 
       at : (c : ℕ) → c < n → getD some-word c 0 ≡ tally (v c)
       at c h = getD-tabulate n (λ c. tally (v c)) 0 c h
-
-      small : (b : Bool) → tally b ≤ 1
-      small true = omega arith
-      small false = omega arith
 
   -- Every message has a codeword, and it's the one that the definition's search finds.
   pub codeword-is : IsCodeword k n a m (codeword k n a m)

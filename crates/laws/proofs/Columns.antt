@@ -1,4 +1,4 @@
--- Check columns as they're defined, one after the other from the last column to the first: which are taken when, and that they have
+-- Check columns as they are defined, one after the other from the last column to the first: which are taken when, and that they have
 -- the two laws of Kernel.
 -- Assumes nothing.
 use Prim.Native.Nat.{ℕ, zero, suc, _+_, _-_, _≤_, _<_}
@@ -8,32 +8,14 @@ use mathlib.Core.List.{List, [], _∷_, map}
 use native.Mathlib.Nat.{add-zero, add-suc}
 use native.Mathlib.Omega.{arith}
 use native.Mathlib.Decide.{ℕ-discrete, decLt}
-use lib.Dec.{leb, eqb}
-use borrow.Author.Tests.{eq-eqb, ne-eqb, le-leb, lt-leb, not-true, not-false}
+use lib.Dec.{leb}
+use borrow.Author.Tests.{le-leb, lt-leb, not-true, not-false}
 use Rattle.symbology.specs.Ranges.{has}
 use Rattle.symbology.specs.Matrix.{BitMatrix}
 use Rattle.symbology.specs.Codeword.{isSum, checkColumns, isCheckColumn}
-use Rattle.laws.proofs.Ranges.{by, clash, and-left, below-true, all-below}
+use Rattle.laws.proofs.Ranges.{by, clash, and-left, below-true, all-below, has-later, has-first, has-none, has-wider}
 use Rattle.laws.proofs.Gf2.{dot, parity-none, turn, turn-at, turn-past, dot-turn, xor-none, xor-back, xor-comm, xor-same, and-no}
-use Rattle.laws.proofs.Kernel.{Dep, Checks}
-
--- ---- membership in a list with one more in front
-
-pub has-first : (x : ℕ) (l : List ℕ) → has x (x ∷ l) ≡ true
-unfolding has
-has-first x l = ap (λ (b : Bool). b || has x l) (eq-eqb x x refl)
-
-has-later : (c x : ℕ) (l : List ℕ) → (c ≡ x → ⊥) → has c (x ∷ l) ≡ has c l
-unfolding has
-has-later c x l h = ap (λ (b : Bool). b || has c l) (ne-eqb c x h)
-
-pub has-wider : (c x : ℕ) (l : List ℕ) → has c l ≡ true → has c (x ∷ l) ≡ true
-unfolding has
-has-wider c x l o = ap (λ (b : Bool). eqb c x || b) o ∙ or-true (eqb c x)
-
-has-none : (c : ℕ) → has c [] ≡ false
-unfolding has
-has-none c = refl
+use Rattle.laws.proofs.Kernel.{Dependency, CheckColumnLaws}
 
 -- ---- sums of columns and words
 
@@ -56,25 +38,25 @@ unfolding isSum
 sum-with k d ds v e = ap (λ (b : Bool). isSum k ds v || b) e ∙ or-true (isSum k ds v)
 
 -- a word with ones only in columns of the list, and whose dot products with the rows are a column's bits
-pub record Picked (k n : ℕ) (a : BitMatrix) (l : List ℕ) (v : ℕ → Bool) : Type 0 where
+pub record SumWord (k n : ℕ) (a : BitMatrix) (l : List ℕ) (v : ℕ → Bool) : Type 0 where
   pub word : ℕ → Bool
   pub inside : (c : ℕ) → word c ≡ true → has c l ≡ true
   pub adds : (i : ℕ) → i < k → dot n (a i) word ≡ v i
 
 -- a sum of columns of a list gives such a word
-pub picked : (k n : ℕ) (a : BitMatrix) (l : List ℕ) (v : ℕ → Bool) → ((c : ℕ) → has c l ≡ true → c < n) → isSum k (map (column a) l) v ≡ true
-    → Picked k n a l v
+pub sum-word : (k n : ℕ) (a : BitMatrix) (l : List ℕ) (v : ℕ → Bool) → ((c : ℕ) → has c l ≡ true → c < n) → isSum k (map (column a) l) v ≡ true
+    → SumWord k n a l v
 unfolding isSum
-picked k n a [] v low e = record {
+sum-word k n a [] v low e = record {
   word = λ c. false;
   inside = λ c o. clash o refl;
   adds = λ i h. parity-none n (λ j. a i j && false) (λ j g. and-false (a i j)) ∙ sym (not-true (v i) (below-true (λ i. not (v i)) k e i h));
 }
-picked k n a (x ∷ l) v low e =
+sum-word k n a (x ∷ l) v low e =
     sum-either k (column a x) (map (column a) l) v e
-    (λ s. let p = picked k n a l v low′ s in record { word = p .word; inside = λ c o. has-wider c x l (p .inside c o); adds = p .adds })
+    (λ s. let p = sum-word k n a l v low′ s in record { word = p .word; inside = λ c o. has-wider c x l (p .inside c o); adds = p .adds })
     (λ s.
-    let p = picked k n a l (λ i. xor (v i) (a i x)) low′ s in
+    let p = sum-word k n a l (λ i. xor (v i) (a i x)) low′ s in
     record {
       word = turn x (p .word);
       inside = λ c o. elim (ℕ-discrete c x) [
@@ -88,19 +70,19 @@ picked k n a (x ∷ l) v low e =
     low′ c o = low c (has-wider c x l o)
 
 -- such a word gives a sum of columns of the list
-pub unpicked : (k n : ℕ) (a : BitMatrix) (l : List ℕ) (v w : ℕ → Bool) → ((c : ℕ) → has c l ≡ true → c < n)
+pub word-sum : (k n : ℕ) (a : BitMatrix) (l : List ℕ) (v w : ℕ → Bool) → ((c : ℕ) → has c l ≡ true → c < n)
     → ((c : ℕ) → c < n → w c ≡ true → has c l ≡ true) → ((i : ℕ) → i < k → dot n (a i) w ≡ v i) → isSum k (map (column a) l) v ≡ true
 unfolding isSum
-unpicked k n a [] v w low inside adds =
+word-sum k n a [] v w low inside adds =
     all-below (λ i. not (v i)) k
     (λ i h. ap not (sym (adds i h) ∙ parity-none n (λ j. a i j && w j) (λ j g. and-no (a i j) (w j) (λ o. clash (inside j g o) (has-none j)))))
-unpicked k n a (x ∷ l) v w low inside adds =
+word-sum k n a (x ∷ l) v w low inside adds =
     by (w x)
     (λ o. sum-with k (column a x) (map (column a) l) v
-    (unpicked k n a l (λ i. xor (v i) (a i x)) (turn x w) low′ (λ c h t. turned c h t o)
+    (word-sum k n a l (λ i. xor (v i) (a i x)) (turn x w) low′ (λ c h t. turned c h t o)
     (λ i h. dot-turn n (a i) w x (low x (has-first x l)) ∙ ap (xor (a i x)) (adds i h) ∙ xor-comm (a i x) (v i))))
     (λ z. sum-without k (column a x) (map (column a) l) v
-    (unpicked k n a l v w low′ (λ c h t. kept c h t (λ e. clash t (subst⁻¹ (λ (c : ℕ). w c ≡ false) e z))) adds))
+    (word-sum k n a l v w low′ (λ c h t. kept c h t (λ e. clash t (subst⁻¹ (λ (c : ℕ). w c ≡ false) e z))) adds))
   where
     low′ : (c : ℕ) → has c l ≡ true → c < n
     low′ c o = low c (has-wider c x l o)
@@ -189,10 +171,10 @@ module _ (k n : ℕ) (a : BitMatrix) where
 
   -- ---- the laws of check columns
 
-  check-free : (j : ℕ) → j < n → isCheckColumn k n a j ≡ true → (d : ℕ → Bool) → Dep k n a (isCheckColumn k n a) j d → ⊥
+  check-free : (j : ℕ) → j < n → isCheckColumn k n a j ≡ true → (d : ℕ → Bool) → Dependency k n a (isCheckColumn k n a) j d → ⊥
   check-free j h t d p =
       let m : ℕ = n - suc j in
-      true≢false (sym (unpicked k n a (checkColumns k n a m) (λ i. a i j) (turn j d) (λ c o. taken-last m (omega arith) c o .1) inside adds)
+      true≢false (sym (word-sum k n a (checkColumns k n a m) (λ i. a i j) (turn j d) (λ c o. taken-last m (omega arith) c o .1) inside adds)
       ∙ not-true (sumOfTaken m j) (sym (check-literal j h) ∙ t))
     where
       inside : (c : ℕ) → c < n → turn j d c ≡ true → has c (checkColumns k n a (n - suc j)) ≡ true
@@ -212,7 +194,7 @@ module _ (k n : ℕ) (a : BitMatrix) where
       adds : (i : ℕ) → i < k → dot n (a i) (turn j d) ≡ a i j
       adds i g = dot-turn n (a i) d j h ∙ ap (xor (a i j)) (p .met i g) ∙ xor-none (a i j)
 
-  check-bound : (j : ℕ) → j < n → isCheckColumn k n a j ≡ false → (d : ℕ → Bool) × Dep k n a (isCheckColumn k n a) j d
+  check-bound : (j : ℕ) → j < n → isCheckColumn k n a j ≡ false → (d : ℕ → Bool) × Dependency k n a (isCheckColumn k n a) j d
   check-bound j h t = (
     turn j (p .word),
     record {
@@ -225,13 +207,13 @@ module _ (k n : ℕ) (a : BitMatrix) where
     },
   )
     where
-      p : Picked k n a (checkColumns k n a (n - suc j)) (λ i. a i j)
-      p = picked k n a (checkColumns k n a (n - suc j)) (λ i. a i j) (λ c o. taken-last (n - suc j) (omega arith) c o .1)
+      p : SumWord k n a (checkColumns k n a (n - suc j)) (λ i. a i j)
+      p = sum-word k n a (checkColumns k n a (n - suc j)) (λ i. a i j) (λ c o. taken-last (n - suc j) (omega arith) c o .1)
           (not-false (sumOfTaken (n - suc j) j) (sym (check-literal j h) ∙ t))
 
       none : (i : ℕ) → i ≤ j → p .word i ≡ false
       none i g = by (p .word i) (λ o. absurd (let q = taken-last (n - suc j) (omega arith) i (p .inside i o) in omega arith)) (λ z. z)
 
   -- Check columns as defined are no sums of later check columns, and the other columns are.
-  pub check-laws : Checks k n a (isCheckColumn k n a)
+  pub check-laws : CheckColumnLaws k n a (isCheckColumn k n a)
   check-laws = record { free = check-free; bound = check-bound }

@@ -1,17 +1,28 @@
 -- Laws of how many numbers below a bound, and how many elements of a list, pass a test.
 -- Assumes nothing.
-use Prim.Native.Nat.{ℕ, zero, suc, _+_, _*_, _/_, _<_}
+use Prim.Native.Nat.{ℕ, zero, suc, _+_, _*_, _/_, _<_, _≤_}
 use mathlib.Core.Path.{_≡_, refl, sym, ap, _∙_}
-use mathlib.Core.Bool.{Bool, true, false, cond}
+use mathlib.Core.Bool.{Bool, true, false, cond, not, _&&_}
 use mathlib.Core.Logic.{∥∥₁-elim}
 use mathlib.Core.List.{List, [], _∷_, _++_, Perm, List·Permᴰ, List·Permᴰ·nil, List·Permᴰ·cons, List·Permᴰ·swap, List·Permᴰ·trans}
 use native.Mathlib.Nat.{ℕ-set, add-zero, add-suc, suc-mul, mul-add-div-right, div-eq-of-lt, div-lt-iff-lt-mul}
 use native.Mathlib.Omega.{arith}
-use native.Mathlib.Decide.{ℕ-discrete}
-use lib.Dec.{eqb}
+use native.Mathlib.Decide.{ℕ-discrete, decLt}
+use lib.Dec.{eqb, ltb}
 use lib.ListN.{length, length-append}
-use borrow.Author.Tests.{eq-eqb, ne-eqb}
+use borrow.Author.Tests.{eq-eqb, ne-eqb, le-ltb, lt-ltb, eqb-true}
 use Rattle.symbology.specs.Ranges.{tally, tabulate, those}
+use Rattle.laws.proofs.Ranges.{those-ext, by, and-left, and-right}
+
+-- ---- factors
+
+pub left-pos : (a b c : ℕ) → c < a * b → 0 < a
+left-pos zero b c h = absurd (omega arith)
+left-pos (suc a) b c h = omega arith
+
+pub right-pos : (a b c : ℕ) → c < a * b → 0 < b
+right-pos a zero c h = absurd (omega arith)
+right-pos a (suc b) c h = omega arith
 
 -- ---- numbers below a bound
 
@@ -28,10 +39,7 @@ unfolding those
 number-zero f = refl
 
 pub number-ext : (f g : ℕ → Bool) (n : ℕ) → ((i : ℕ) → i < n → f i ≡ g i) → length (those n f) ≡ length (those n g)
-number-ext f g zero h = number-zero f ∙ sym (number-zero g)
-number-ext f g (suc n) h =
-    let last : tally (f n) ≡ tally (g n) = ap tally (h n (omega arith)) in
-    omega (arith, number-suc f n, number-suc g n, number-ext f g n (λ i l. h i (omega arith)))
+number-ext f g n h = ap length (those-ext n f g h)
 
 pub number-split : (f : ℕ → Bool) (m n : ℕ) → length (those (m + n) f) ≡ length (those m f) + length (those n (λ i. f (m + i)))
 number-split f m zero = ap (λ (k : ℕ). length (those k f)) (add-zero m) ∙ omega (arith, number-zero (λ i. f (m + i)))
@@ -84,12 +92,8 @@ number-quotient w r (suc t) h =
           omega (arith, number-quotient w r t (omega arith))
     ]
   where
-    some : (w c : ℕ) → c < t * w → 0 < w
-    some zero c l = absurd (omega arith)
-    some (suc w) c l = omega arith
-
     less : (c : ℕ) → c < t * w → c / w < t
-    less c l = div-lt-iff-lt-mul (some w c l) .1 l
+    less c l = div-lt-iff-lt-mul (right-pos t w c l) .1 l
 
     quotient : (i : ℕ) → i < w → (t * w + i) / w ≡ t
     quotient i l = mul-add-div-right (omega arith) t i ∙ ap (λ (k : ℕ). t + k) (div-eq-of-lt l) ∙ add-zero t
@@ -124,3 +128,79 @@ module _ {A : Type 0} (f : A → Bool) where
   count-tabulate g zero = number-zero (λ i. f (g i))
   count-tabulate g (suc n) =
       omega (arith, number-suc (λ i. f (g i)) n, count-append (tabulate n g) (g n ∷ []), count-tabulate g n)
+
+-- ---- two tests, and rows of their own
+
+pub number-both : (n : ℕ) (f : ℕ → Bool) → length (those n f) + length (those n (λ i. not (f i))) ≡ n
+unfolding those
+number-both zero f = refl
+number-both (suc n) f =
+    let one : tally (f n) + tally (not (f n)) ≡ 1 = go (f n) in
+    omega (arith, number-suc f n, number-suc (λ i. not (f i)) n, number-both n f)
+  where
+    go : (b : Bool) → tally b + tally (not b) ≡ 1
+    go true = refl
+    go false = refl
+
+-- a test that holds at one number at most
+pub number-single : (n : ℕ) (f : ℕ → Bool) → ((c d : ℕ) → c < n → d < n → f c ≡ true → f d ≡ true → c ≡ d) → length (those n f) ≤ 1
+unfolding those
+number-single zero f h = omega arith
+number-single (suc n) f h =
+    by (f n)
+    (λ o.
+    let none : length (those n f) ≡ 0 =
+    number-none f n (λ c l. by (f c) (λ p. absurd (let e : c ≡ n = h c n (omega arith) (omega arith) p o in omega arith)) (λ z. z)) in
+    let one : tally (f n) ≡ 1 = ap tally o in
+    omega (arith, number-suc f n))
+    (λ z.
+    let none : tally (f n) ≡ 0 = ap tally z in
+    omega (arith, number-suc f n, number-single n f (λ c d p q. h c d (omega arith) (omega arith))))
+
+pub number-parts : (n : ℕ) (f g h : ℕ → Bool) → ((c : ℕ) → c < n → tally (f c) ≤ tally (g c) + tally (h c))
+    → length (those n f) ≤ length (those n g) + length (those n h)
+unfolding those
+number-parts zero f g h p = omega arith
+number-parts (suc n) f g h p =
+    omega (arith, number-suc f n, number-suc g n, number-suc h n, p n (omega arith), number-parts n f g h (λ c l. p c (omega arith)))
+
+module _ (n : ℕ) (f : ℕ → Bool) (row : ℕ → ℕ)
+    (one : (c d : ℕ) → c < n → d < n → f c ≡ true → f d ≡ true → row c ≡ row d → c ≡ d) where
+  number-rows : (k : ℕ) → length (those n (λ c. f c && ltb (row c) k)) ≤ k
+  number-rows zero = omega (arith, number-none (λ c. f c && ltb (row c) 0) n (λ c h. go (f c) (row c)))
+    where
+      go : (b : Bool) (x : ℕ) → (b && ltb x 0) ≡ false
+      go true x = le-ltb x 0 (omega arith)
+      go false x = refl
+  number-rows (suc k) =
+      omega (
+        arith,
+        number-rows k,
+        last,
+        number-parts n (λ c. f c && ltb (row c) (suc k)) (λ c. f c && ltb (row c) k) (λ c. f c && eqb (row c) k) (λ c h. go (f c) (row c)),
+      )
+    where
+      last : length (those n (λ c. f c && eqb (row c) k)) ≤ 1
+      last = number-single n (λ c. f c && eqb (row c) k) (λ c d p q u v. one c d p q
+          (and-left (f c) (eqb (row c) k) u) (and-left (f d) (eqb (row d) k) v)
+          (eqb-true (row c) k (and-right (f c) (eqb (row c) k) u) ∙ sym (eqb-true (row d) k (and-right (f d) (eqb (row d) k) v))))
+
+      go : (b : Bool) (x : ℕ) → tally (b && ltb x (suc k)) ≤ tally (b && ltb x k) + tally (b && eqb x k)
+      go true x =
+          elim (ℕ-discrete x k) [
+            | yes e ↦ rw (eq-eqb x k e, lt-ltb x (suc k) (omega arith)) (omega arith)
+            | no e ↦ elim (decLt x k) [
+              | yes l ↦ rw (lt-ltb x k l, lt-ltb x (suc k) (omega arith)) (omega arith)
+              | no l ↦ rw (le-ltb x (suc k) (omega arith)) (omega arith)
+            ]
+          ]
+      go false x = omega arith
+
+  -- no more numbers pass a test than there are rows, if each has a row of its own
+  pub rows-bound : (k : ℕ) → ((c : ℕ) → c < n → f c ≡ true → row c < k) → length (those n f) ≤ k
+  rows-bound k low =
+      omega (arith, number-rows k, number-none (λ c. false) n (λ c h. refl), number-parts n f (λ c. f c && ltb (row c) k) (λ c. false) (λ c h. go c h))
+    where
+      go : (c : ℕ) → c < n → tally (f c) ≤ tally (f c && ltb (row c) k) + 0
+      go c h =
+          by (f c) (λ o. rw (o, lt-ltb (row c) k (low c h o)) (omega arith)) (λ z. rw z (omega arith))

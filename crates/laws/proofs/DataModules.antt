@@ -5,8 +5,8 @@ use mathlib.Core.Path.{_≡_, refl, sym, ap, _∙_}
 use mathlib.Core.Bool.{Bool, true, false, cond, not, _&&_, _||_}
 use mathlib.Core.List.{List}
 use native.Mathlib.Omega.{arith}
-use borrow.Author.Tests.{le-ltb}
 use lib.Dec.{ltb}
+use borrow.Author.Tests.{le-ltb}
 use Rattle.symbology.specs.declared.Params.{Params}
 use Rattle.symbology.specs.declared.PatternColour.{PatternColour}
 use Rattle.symbology.specs.declared.PatternColour.the-variants.{Outside, Black, Cyan, Yellow}
@@ -19,8 +19,7 @@ use Rattle.symbology.specs.Reserved.{entries, entryColumn, entryRow, entryColou
 use Rattle.symbology.specs.Parameters.{inRange}
 use Rattle.symbology.specs.Capacity.{patternModules, dataModules}
 use Rattle.symbology.specs.Placement.{patternCell, cellOf, isData, columnData}
-use Rattle.laws.proofs.Ranges.{sum-ext, sum-add, sum-const}
-use Rattle.laws.proofs.Windows.{sum-point}
+use Rattle.laws.proofs.Sums.{sum-ext, sum-add, sum-const, sum-point}
 use Rattle.laws.proofs.Patterns.{pattern-count}
 use Rattle.laws.proofs.Reserved.{SoundEntry, SoundList, sound-list, listed, listed-more, listed-none, entry-own, entry-column, entry-row}
 

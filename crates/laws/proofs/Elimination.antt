@@ -11,7 +11,7 @@ use borrow.Author.Tests.{eq-eqb, ne-eqb, lt-ltb, le-ltb, ltb-true, not-true}
 use Rattle.symbology.specs.Matrix.{BitMatrix}
 use Rattle.laws.proofs.Ranges.{by, clash, and-left, and-right, or-right}
 use Rattle.laws.proofs.Gf2.{dot, parity-none, parity-only, dot-ext, dot-xor, xor-dot, scale-dot, turn, turn-at, turn-past, dot-turn, Meets, meets-ext, xor-none, none-xor, xor-same, and-no}
-use Rattle.laws.proofs.Kernel.{Dep, Checks}
+use Rattle.laws.proofs.Kernel.{Dependency, CheckColumnLaws}
 
 -- a check column among the columns from j on
 abbrev pub Pivot : ℕ → (ℕ → Bool) → ℕ → ℕ → Type 0
@@ -76,7 +76,7 @@ module _ (k n : ℕ) (a : BitMatrix) (chk : ℕ → Bool) where
 
     -- ---- which kind a column is
 
-    module _ (law : Checks k n a chk) (j : ℕ) (h : j < n) (inv : Inv k n a chk r used row (suc j)) where
+    module _ (law : CheckColumnLaws k n a chk) (j : ℕ) (h : j < n) (inv : Inv k n a chk r used row (suc j)) where
       -- the pivots whose rows have a 1 in column j
       parts : ℕ → Bool
       parts c = (chk c && ltb j c) && r (row c) j
@@ -112,7 +112,7 @@ module _ (k n : ℕ) (a : BitMatrix) (chk : ℕ → Bool) where
       pub clear-message : ((i : ℕ) → i < k → used i ≡ false → r i j ≡ false) → chk j ≡ false
       clear-message zeros = by (chk j) (λ t. absurd (law .free j h t (turn j parts) dep)) (λ z. z)
         where
-          dep : Dep k n a chk j (turn j parts)
+          dep : Dependency k n a chk j (turn j parts)
           dep = record {
             one = turn-at j parts ∙ ap not (parts-early j (omega arith));
             before = λ i g. turn-past j parts i (λ e. omega arith) ∙ parts-early i (omega arith);
@@ -127,7 +127,7 @@ module _ (k n : ℕ) (a : BitMatrix) (chk : ℕ → Bool) where
           full : (z : chk j ≡ false) → dot n (r t) (law .bound j h z .0) ≡ true
           full z =
               let d : ℕ → Bool = law .bound j h z .0 in
-              let dep : Dep k n a chk j d = law .bound j h z .1 in
+              let dep : Dependency k n a chk j d = law .bound j h z .1 in
               parity-only n j (λ c. r t c && d c) h
               (λ c g ne. and-no (r t c) (d c) (λ y.
               elim (decLt c j) [

@@ -16,7 +16,7 @@ use Rattle.symbology.specs.Ranges.{tally, those, tabulate}
 use Rattle.symbology.specs.Bits.{AllBits}
 use Rattle.symbology.specs.Matrix.{BitMatrix, checkOf, checksOf}
 use Rattle.symbology.specs.Rule.{bitSum, unmet, unmetCount}
-use Rattle.laws.proofs.Ranges.{by}
+use Rattle.laws.proofs.Ranges.{by, tally-none}
 
 -- ---- one bit
 
@@ -218,11 +218,6 @@ bit-same x y p q e =
     by (eqb (x % 2) 1) (λ t. let s : x % 2 ≡ 1 = eqb-true (x % 2) 1 t in let u : y % 2 ≡ 1 = eqb-true (y % 2) 1 (sym e ∙ t) in omega arith)
     (λ t. let s : x % 2 ≡ 1 → ⊥ = eqb-false (x % 2) 1 t in let u : y % 2 ≡ 1 → ⊥ = eqb-false (y % 2) 1 (sym e ∙ t) in omega arith)
 
--- the test of a bit that stands for a Bool
-pub bit-tally : (b : Bool) → eqb (tally b % 2) 1 ≡ b
-bit-tally true = refl
-bit-tally false = refl
-
 bitSum-append : (a b : List ℕ) (w : List ℕ) → bitSum (a ++ b) w ≡ bitSum a w + bitSum b w
 unfolding bitSum
 bitSum-append [] b w = omega arith
@@ -254,10 +249,6 @@ unmet-dot (suc n) f w = ap (λ (x : ℕ). x % 2) (bitSum-append (those n f) (con
         → (bitSum (those n f) w + bitSum (cond t (n ∷ []) []) w) % 2 ≡ tally (xor (dot n f (bitAt w)) (t && bitAt w n))
     go true e = rw (add-zero (getD w n 0)) (odd-step (bitSum (those n f) w) (getD w n 0) (dot n f (bitAt w)) e)
     go false e = rw (add-zero (bitSum (those n f) w), xor-none (dot n f (bitAt w))) e
-
-tally-none : (b : Bool) → tally b ≡ 0 → b ≡ false
-tally-none true e = absurd (omega arith)
-tally-none false e = refl
 
 unmet-more : (k n : ℕ) (a : BitMatrix) (w : List ℕ)
     → unmetCount (checksOf (suc k) n a) w ≡ unmetCount (checksOf k n a) w + tally (dot n (a k) (bitAt w))

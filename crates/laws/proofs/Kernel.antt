@@ -13,16 +13,16 @@ use Rattle.laws.proofs.Ranges.{by, clash}
 use Rattle.laws.proofs.Gf2.{parity-none, Meets, meets-xor, xor-none, none-xor, xor-same, xor-equal}
 
 -- column j is the sum of later check columns: a word of the kernel whose first 1 is at j and whose other ones are in check columns
-pub record Dep (k n : ℕ) (a : BitMatrix) (chk : ℕ → Bool) (j : ℕ) (d : ℕ → Bool) : Type 0 where
+pub record Dependency (k n : ℕ) (a : BitMatrix) (chk : ℕ → Bool) (j : ℕ) (d : ℕ → Bool) : Type 0 where
   pub one : d j ≡ true
   pub before : (i : ℕ) → i < j → d i ≡ false
   pub after : (i : ℕ) → j < i → i < n → d i ≡ true → chk i ≡ true
   pub met : Meets k n a d
 
 -- a check column is no sum of later check columns, a message column is one
-pub record Checks (k n : ℕ) (a : BitMatrix) (chk : ℕ → Bool) : Type 0 where
-  pub free : (j : ℕ) → j < n → chk j ≡ true → (d : ℕ → Bool) → Dep k n a chk j d → ⊥
-  pub bound : (j : ℕ) → j < n → chk j ≡ false → (d : ℕ → Bool) × Dep k n a chk j d
+pub record CheckColumnLaws (k n : ℕ) (a : BitMatrix) (chk : ℕ → Bool) : Type 0 where
+  pub free : (j : ℕ) → j < n → chk j ≡ true → (d : ℕ → Bool) → Dependency k n a chk j d → ⊥
+  pub bound : (j : ℕ) → j < n → chk j ≡ false → (d : ℕ → Bool) × Dependency k n a chk j d
 
 -- the kernel's word with the bits b in the message columns below m, and 0 in the message columns from m on
 pub record Solution (k n : ℕ) (a : BitMatrix) (chk b : ℕ → Bool) (m : ℕ) : Type 0 where
@@ -37,7 +37,7 @@ ltb-step c m h =
       | no l ↦ le-ltb c m (omega arith) ∙ sym (le-ltb c (suc m) (omega arith))
     ]
 
-module _ (k n : ℕ) (a : BitMatrix) (chk : ℕ → Bool) (law : Checks k n a chk) where
+module _ (k n : ℕ) (a : BitMatrix) (chk : ℕ → Bool) (law : CheckColumnLaws k n a chk) where
   -- ---- at most one word
 
   unique-below : (v w : ℕ → Bool) → Meets k n a v → Meets k n a w → ((c : ℕ) → c < n → chk c ≡ false → v c ≡ w c)
@@ -89,7 +89,7 @@ module _ (k n : ℕ) (a : BitMatrix) (chk : ℕ → Bool) (law : Checks k n a ch
       d : ℕ → Bool
       d = law .bound m l t .0
 
-      dep : Dep k n a chk m d
+      dep : Dependency k n a chk m d
       dep = law .bound m l t .1
 
       elsewhere : (c : ℕ) → c < n → chk c ≡ false → (c ≡ m → ⊥) → d c ≡ false

@@ -9,12 +9,11 @@ use native.Mathlib.Omega.{arith}
 use native.Mathlib.Decide.{decLt}
 use lib.Dec.{eqb}
 use lib.ListN.{length, getD, List·getD-eq-default}
-use lib.Seq.{ext-getD}
 use Rattle.symbology.specs.Ranges.{tabulate, those}
 use Rattle.symbology.specs.Generator.{stateAfter}
 use Rattle.symbology.specs.Matrix.{columnOrder, matrixA, checkOf}
-use Rattle.laws.proofs.Ranges.{length-tabulate, getD-tabulate}
-use Rattle.laws.proofs.Counting.{count, count-perm, count-tabulate, number-zero, number-ext, number-split, number-one, number-quotient}
+use Rattle.laws.proofs.Ranges.{length-tabulate, getD-tabulate, tabulate-getD}
+use Rattle.laws.proofs.Counting.{count, count-perm, count-tabulate, number-zero, number-ext, number-split, number-one, number-quotient, right-pos, left-pos}
 use Rattle.laws.proofs.Shuffle.{length-shuffled, shuffled-perm, shuffled-every}
 
 -- ---- the column orders
@@ -48,19 +47,6 @@ pub order-lt : (seed gross k j : ℕ) → j < gross → getD (columnOrder seed g
 order-lt seed gross k j h = order-every seed gross k (omega arith) j
 
 -- ---- the weights
-
-left-pos : (a b c : ℕ) → c < a * b → 0 < a
-left-pos zero b c h = absurd (omega arith)
-left-pos (suc a) b c h = omega arith
-
-right-pos : (a b c : ℕ) → c < a * b → 0 < b
-right-pos a zero c h = absurd (omega arith)
-right-pos a (suc b) c h = omega arith
-
-tabulate-getD : {A : Type 0} (z : A) (xs : List A) (n : ℕ) → length xs ≡ n → tabulate n (λ j. getD xs j z) ≡ xs
-tabulate-getD z xs n e =
-    ext-getD z (tabulate n (λ j. getD xs j z)) xs (length-tabulate n (λ j. getD xs j z) ∙ sym e)
-    (λ i h. getD-tabulate n (λ j. getD xs j z) z i (omega (arith, length-tabulate n (λ j. getD xs j z))))
 
 -- row r of the block behind n blocks
 block-row : (seed t wr n j r : ℕ) → r < t

@@ -14,8 +14,8 @@ use borrow.Author.Tests.{ne-eqb, eqb-true, eqb-false}
 use Rattle.symbology.specs.Ranges.{tally, tabulate}
 use Rattle.symbology.specs.Bits.{AllBits, anyOne}
 use Rattle.symbology.specs.Net.{withEndMark, upToLastOne, streamIn, stuffing}
-use Rattle.laws.proofs.Ranges.{by, clash, or-left, or-right, or-none, length-tabulate, getD-tabulate}
-use Rattle.laws.proofs.Bits.{append-bits}
+use Rattle.laws.proofs.Ranges.{by, clash, or-left, or-right, or-none, length-tabulate, getD-tabulate, tally-le, tally-none}
+use Rattle.laws.proofs.Bits.{append-bits, zero-bits}
 
 -- ---- bits up to the last 1
 
@@ -27,10 +27,6 @@ last-behind b bs h = rw (ne-eqb (upToLastOne bs) 0 (λ e. omega arith)) refl
 last-here : (b : ℕ) (bs : List ℕ) → upToLastOne bs ≡ 0 → upToLastOne (b ∷ bs) ≡ tally (eqb (b % 2) 1)
 unfolding upToLastOne
 last-here b bs h = rw h refl
-
-tally-le : (t : Bool) → tally t ≤ 1
-tally-le true = omega arith
-tally-le false = omega arith
 
 -- the bits up to the last 1 are no more than the bits
 pub upTo-le : (net : List ℕ) → upToLastOne net ≤ length net
@@ -56,14 +52,10 @@ upTo-none (b ∷ bs) e = elim (decLt 0 (upToLastOne bs)) [
   | yes h ↦ absurd (omega (arith, last-behind b bs h))
   | no h ↦
       let behind : upToLastOne bs ≡ 0 = omega arith in
-      or-none (eqb (b % 2) 1) (anyOne bs) (tally-false (eqb (b % 2) 1) (sym (last-here b bs behind) ∙ e)) (upTo-none bs behind)
+      or-none (eqb (b % 2) 1) (anyOne bs) (tally-none (eqb (b % 2) 1) (sym (last-here b bs behind) ∙ e)) (upTo-none bs behind)
 ]
-  where
-    tally-false : (t : Bool) → tally t ≡ 0 → t ≡ false
-    tally-false true h = absurd (omega arith)
-    tally-false false h = refl
 
--- the test 11: no bit of the net bits is 1 exactly when the bits up to the last 1 are none
+-- Test 11: no net bit is 1 exactly when there are no bits up to the last 1.
 pub none-one : (net : List ℕ) → anyOne net ≡ false ↔ upToLastOne net ≡ 0
 none-one net = (none-upTo net, upTo-none net)
 
@@ -93,7 +85,7 @@ pub upTo-net : (n : ℕ) (stream : List ℕ) → upToLastOne (withEndMark n stre
 unfolding withEndMark
 upTo-net n stream = upTo-mark stream (n - suc (length stream))
 
--- net bits give back their stream
+-- Net bits give back their stream.
 pub net-back : (n : ℕ) (stream : List ℕ) → streamIn (withEndMark n stream) ≡ stream
 unfolding streamIn withEndMark
 net-back n stream =
@@ -105,11 +97,6 @@ unfolding withEndMark
 length-net n stream h =
     let zeros : ℕ = n - suc (length stream) in
     omega (arith, length-append stream (1 ∷ replicate zeros 0), length-replicate {A = ℕ} zeros 0)
-
-zero-bits : (n : ℕ) → AllBits (replicate n 0)
-zero-bits zero i = omega arith
-zero-bits (suc n) zero = omega arith
-zero-bits (suc n) (suc i) = zero-bits n i
 
 -- net bits are bits
 pub net-bits : (n : ℕ) (stream : List ℕ) → AllBits stream → AllBits (withEndMark n stream)
@@ -159,7 +146,7 @@ split-last (b ∷ bs) h (suc k) e =
     let rest : length (b ∷ bs) - suc (suc k) ≡ length bs - suc k = omega arith in
     rw rest (ap (λ (x : List ℕ). b ∷ x) (split-last bs (λ i. h (suc i)) k behind))
 
--- net bits of which one is 1 are their stream, its end mark and zeros
+-- Net bits of which one is 1 are their stream, its end mark and zeros.
 pub net-marked : (net : List ℕ) → AllBits net → anyOne net ≡ true → withEndMark (length net) (streamIn net) ≡ net
 unfolding withEndMark streamIn
 net-marked net h e =

@@ -1,19 +1,18 @@
 -- What the ranges of the parameters say, one fact for each test of `inRange`, and the bits per module: N is 2 to the power of them.
 -- Assumes nothing.
-use Prim.Native.Nat.{ℕ, zero, suc, _^_, _≤_, _<_}
+use Prim.Native.Nat.{ℕ, _^_, _≤_, _<_}
 use mathlib.Core.Path.{_≡_, refl}
 use mathlib.Core.Bool.{Bool, true, false, not, _||_}
 use mathlib.Core.Logic.{_⊎_, inl, inr}
-use mathlib.Core.List.{List, [], _∷_}
 use native.Mathlib.Omega.{arith}
-use lib.Dec.{eqb, leb}
+use lib.Dec.{eqb}
 use lib.ListN.{getD}
-use borrow.Author.Tests.{leb-true, ltb-true, eqb-true, eqb-false, not-true}
+use borrow.Author.Tests.{ltb-true, eqb-true, eqb-false, not-true}
 use Rattle.symbology.specs.declared.Params.{Params}
-use Rattle.symbology.specs.Ranges.{within, allHold, lowest}
+use Rattle.symbology.specs.Ranges.{lowest}
 use Rattle.symbology.specs.Parameters.{rangeTests, inRange}
 use Rattle.symbology.specs.Capacity.{bitsPerModule}
-use Rattle.laws.proofs.Ranges.{and-left, and-right}
+use Rattle.laws.proofs.Ranges.{at-each, within-high, within-low}
 
 -- the range of each parameter
 pub record InRange (p : Params) : Type 0 where
@@ -36,19 +35,6 @@ pub record InRange (p : Params) : Type 0 where
   pub wc-below : p .wc < p .wr
   pub mask-most : p .mask ≤ 7
   pub turn-most : p .turn ≤ 1
-
--- the test of a list that all hold, at each place
-at-each : (ts : List Bool) → allHold ts ≡ true → (i : ℕ) → getD ts i true ≡ true
-unfolding allHold
-at-each [] e i = refl
-at-each (t ∷ ts) e zero = and-left t (allHold ts) e
-at-each (t ∷ ts) e (suc i) = at-each ts (and-right t (allHold ts) e) i
-
-within-low : (low high n : ℕ) → within low high n ≡ true → low ≤ n
-within-low low high n e = leb-true low n (and-left (leb low n) (leb n high) e)
-
-within-high : (low high n : ℕ) → within low high n ≡ true → n ≤ high
-within-high low high n e = leb-true n high (and-right (leb low n) (leb n high) e)
 
 either : (n : ℕ) → (eqb n 4 || eqb n 8) ≡ true → (n ≡ 4) ⊎ (n ≡ 8)
 either n e = go (eqb n 4) (eqb-true n 4) e

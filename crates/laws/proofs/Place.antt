@@ -6,7 +6,6 @@ use mathlib.Core.Bool.{Bool, true, false, cond, true≢false}
 use native.Mathlib.Nat.{le-trans, le-of-eq, lt-of-le-of-lt, lt-of-lt-of-le, lt-of-mul-lt-mul-right, mul-one, mul-assoc, mul-comm, mul-right-comm, mul-mul-mul-comm, mul-le-mul-right, mul-lt-mul-of-pos-right, mul-pos}
 use native.Mathlib.Omega.{arith}
 use lib.Dec.{T, eqb, lt→ltb, lit≤}
-use borrow.Author.Tests.{eqb-false}
 use lib.IntN.{pos}
 use lib.Pow.{pow-pos}
 use lib.Ieee.{Float, nan, inf, fin, binary32, up, down, round, mul, div, ofInt, toUnsigned, lt}
@@ -14,6 +13,7 @@ use lib.Ieee.Fits.{down-pos}
 use lib.Ieee.Exact.{HasValue}
 use lib.Ieee.Nearest.{div-same}
 use lib.Ieee.Scale.{grid, round-same, round-val}
+use borrow.Author.Tests.{eqb-false}
 use Rattle.symbology.specs.Place.{scaled, rawPlace, capped, placeOf, nearestSingle, wholePlace}
 use Rattle.laws.proofs.Rounding.{single-le, single-exact, single-twice, single-shifted, grid-whole}
 

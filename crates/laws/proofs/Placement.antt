@@ -4,13 +4,12 @@ use Prim.Native.Nat.{ℕ, zero, suc, _+_, _*_, _/_, _%_, _^_, _≤_, _<_}
 use mathlib.Core.Path.{_≡_, refl, sym, ap, _∙_}
 use mathlib.Core.Bool.{Bool, true, false, cond}
 use mathlib.Core.List.{List, [], _++_, append-nil, append-assoc}
-use native.Mathlib.Nat.{zero-add, add-zero, mul-zero, mul-one, mul-suc, mul-add, mul-le-mul-left}
+use native.Mathlib.Nat.{zero-add, mul-zero, mul-one, mul-suc, mul-add, mul-le-mul-left}
 use native.Mathlib.Omega.{arith}
 use lib.Arith.{digits-lt, digits-div, digits-mod}
-use lib.Pow.{pow-mono}
 use lib.Bits.{bitXor}
 use lib.Dec.{leb, ltb}
-use lib.ListN.{length, getD, take, drop, length-append, length-take, length-drop}
+use lib.ListN.{length, getD, take, drop, length-append, length-drop}
 use lib.Seq.{take-add, take-length}
 use borrow.Author.Tests.{ltb-true, lt-leb}
 use Rattle.symbology.specs.declared.Params.{Params}
@@ -26,33 +25,12 @@ use Rattle.symbology.specs.Parameters.{inRange}
 use Rattle.symbology.specs.Patterns.{patternColour}
 use Rattle.symbology.specs.Reserved.{entries, entryColour, firstEntry}
 use Rattle.symbology.specs.Placement.{patternCell, cellOf, isData, cellAt, columnData, rank, maskAt, dataModule, onCell, moduleAt, filled, cellBits, bitsAt, sampled, firstBadModule}
-use Rattle.laws.proofs.Ranges.{lowest-none, length-tabulate, getD-tabulate, sum-ext}
-use Rattle.laws.proofs.Bits.{length-bits, value-lt, bits-take, append-bits, bits-are, drop-bits}
+use Rattle.laws.proofs.Ranges.{lowest-none, length-tabulate, getD-tabulate}
+use Rattle.laws.proofs.Sums.{sum-ext, sum-scale, length-join, join-snoc}
+use Rattle.laws.proofs.Bits.{length-bits, bits-take, bits-are, drop-bits, value-take, join-bits}
 use Rattle.laws.proofs.Parameters.{InRange, ranges, depth-power}
 use Rattle.laws.proofs.Masks.{masked-twice, masked-below}
-use Rattle.laws.proofs.Ranks.{dataTotal, sum-scale, rank-first, rank-next, rank-column, rank-last, rank-below}
-
--- ---- joined lists
-
-module _ {A : Type 0} where
-  pub length-join : (f : ℕ → List A) (a n : ℕ) → length (joinFrom a n f) ≡ sumFrom a n (λ i. length (f i))
-  unfolding joinFrom sumFrom
-  length-join f a zero = refl
-  length-join f a (suc n) = length-append (f a) (joinFrom (suc a) n f) ∙ rw (length-join f (suc a) n)
-
-  pub join-snoc : (f : ℕ → List A) (a n : ℕ) → joinFrom a (suc n) f ≡ joinFrom a n f ++ f (a + n)
-  unfolding joinFrom
-  join-snoc f a zero = rw (add-zero a) (append-nil (f a))
-  join-snoc f a (suc n) =
-      let later : joinFrom (suc a) (suc n) f ≡ joinFrom (suc a) n f ++ f (suc a + n) = join-snoc f (suc a) n in
-      let same : f (suc a + n) ≡ f (a + suc n) = ap f (omega arith) in
-      ap (λ (x : List A). f a ++ x) (later ∙ ap (λ (x : List A). joinFrom (suc a) n f ++ x) same)
-      ∙ sym (append-assoc (f a) (joinFrom (suc a) n f) (f (a + suc n)))
-
-pub join-bits : (f : ℕ → List ℕ) (a n : ℕ) → ((i : ℕ) → AllBits (f i)) → AllBits (joinFrom a n f)
-unfolding joinFrom
-join-bits f a zero h = λ i. omega arith
-join-bits f a (suc n) h = append-bits (f a) (joinFrom (suc a) n f) (h a) (join-bits f (suc a) n h)
+use Rattle.laws.proofs.Ranks.{dataTotal, rank-first, rank-next, rank-column, rank-last, rank-below}
 
 -- ---- filling
 
@@ -74,11 +52,6 @@ getD-filled p l bs c r h k =
     getD-index p l bs (r * columns p + c) (digits-lt k h) ∙ rw (digits-mod r h, digits-div r h)
 
 -- ---- every module filled is a colour index
-
-value-take : (n : ℕ) (bs : List ℕ) → value (take n bs) < 2 ^ n
-value-take n bs =
-    let few : length (take n bs) ≤ n = omega (arith, length-take n bs) in
-    omega (arith, value-lt (take n bs), pow-mono few)
 
 -- a pattern's module, and any cell's, holds a colour index where v and those of the list are colour indices
 pattern-below : (p : Params) (s : PatternColour) (v : ℕ) → InRange p → v < p .colours → onCell (patternCell p s) v < p .colours

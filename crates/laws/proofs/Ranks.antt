@@ -1,29 +1,16 @@
 -- Ranks: how many data modules stand before a module, from one module to the next.
 -- Assumes nothing.
-use Prim.Native.Nat.{ℕ, zero, suc, _+_, _-_, _*_, _≤_, _<_}
-use mathlib.Core.Path.{_≡_, refl, sym, ap, _∙_}
+use Prim.Native.Nat.{ℕ, suc, _+_, _≤_, _<_}
+use mathlib.Core.Path.{_≡_, refl, ap, _∙_}
 use mathlib.Core.Bool.{true}
 use mathlib.Core.List.{List}
-use native.Mathlib.Nat.{zero-add, mul-zero, mul-add}
+use native.Mathlib.Nat.{zero-add}
 use native.Mathlib.Omega.{arith}
 use Rattle.symbology.specs.declared.Params.{Params}
 use Rattle.symbology.specs.Ranges.{tally, sumFrom}
 use Rattle.symbology.specs.Sides.{columns, rows}
 use Rattle.symbology.specs.Placement.{cellAt, isData, columnData, rank}
-use Rattle.laws.proofs.Ranges.{sum-split, sum-snoc}
-
--- ---- sums
-
--- fewer terms add to no more
-pub sum-prefix : (f : ℕ → ℕ) (a m n : ℕ) → m ≤ n → sumFrom a m f ≤ sumFrom a n f
-sum-prefix f a m n h =
-    let parts : sumFrom a n f ≡ sumFrom a m f + sumFrom (a + m) (n - m) f = ap (λ (k : ℕ). sumFrom a k f) (omega arith) ∙ sum-split f a m (n - m) in
-    omega arith
-
-pub sum-scale : (x : ℕ) (f : ℕ → ℕ) (a n : ℕ) → sumFrom a n (λ i. x * f i) ≡ x * sumFrom a n f
-unfolding sumFrom
-sum-scale x f a zero = sym (mul-zero x)
-sum-scale x f a (suc n) = rw (sum-scale x f (suc a) n) (sym (mul-add x (f a) (sumFrom (suc a) n f)))
+use Rattle.laws.proofs.Sums.{sum-snoc, sum-prefix}
 
 -- ---- ranks
 

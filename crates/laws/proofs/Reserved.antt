@@ -1,22 +1,21 @@
 -- What a sound reserved list says: whole entries, at most 1,024, each inside the symbol, on no pattern, at a place that no earlier
 -- entry names, with a colour of the symbol.
 -- Assumes nothing.
-use Prim.Native.Nat.{ℕ, suc, _+_, _%_, _≤_, _<_}
-use mathlib.Core.Path.{_≡_, refl, sym, _∙_}
+use Prim.Native.Nat.{ℕ, suc, _%_, _≤_, _<_}
+use mathlib.Core.Path.{_≡_, refl, sym}
 use mathlib.Core.Bool.{Bool, true, false, cond, not, _&&_, _||_}
 use mathlib.Core.List.{List}
 use native.Mathlib.Omega.{arith}
-use native.Mathlib.Decide.{ℕ-discrete, decLt}
 use lib.Dec.{leb, ltb, eqb}
 use lib.ListN.{length}
-use borrow.Author.Tests.{leb-true, leb-false, eqb-true, ltb-false, lt-ltb, le-ltb, eq-eqb, ne-eqb, not-false}
+use borrow.Author.Tests.{leb-true, leb-false, eqb-true, ltb-false, le-ltb, eq-eqb, ne-eqb, not-false}
 use Rattle.symbology.specs.declared.Params.{Params}
 use Rattle.symbology.specs.declared.ListVerdict.the-variants.{Sound, Fault}
 use Rattle.symbology.specs.Ranges.{within, lowest}
 use Rattle.symbology.specs.Sides.{columns, rows}
 use Rattle.symbology.specs.Patterns.{covered, patternColour}
 use Rattle.symbology.specs.Reserved.{entries, entryColumn, entryRow, entryColour, entryAt, firstEntry, badEntry, badAt, entryVerdict, listVerdict}
-use Rattle.laws.proofs.Ranges.{by, clash, and-left, and-right, and-both, or-left, or-right, lowest-holds, lowest-before, lowest-none}
+use Rattle.laws.proofs.Ranges.{clash, and-left, and-right, and-both, or-left, or-right, lowest-before, lowest-more}
 
 -- entry k lies inside the symbol, on no pattern, at a place that no earlier entry names, with a colour below N
 pub record SoundEntry (p : Params) (l : List ℕ) (k : ℕ) : Type 0 where
@@ -101,35 +100,6 @@ sound-list p l sound =
 abbrev pub listed : List ℕ → ℕ → ℕ → ℕ → Bool
 listed l n x y = ltb (firstEntry l n x y) n
 
--- a search finds a number below its end where the test holds at one of them
-lowest-some : (f : ℕ → Bool) (n i : ℕ) → i < n → f i ≡ true → lowest f n 0 < n
-lowest-some f n i h e =
-    elim (decLt (lowest f n 0) n) [
-      | yes less ↦ less
-      | no more ↦ clash e (lowest-before f n 0 i (omega arith) (omega arith))
-    ]
-
--- one of n + 1 numbers: one of the first n, or the last
-lowest-more : (f : ℕ → Bool) (n : ℕ) → ltb (lowest f (suc n) 0) (suc n) ≡ (ltb (lowest f n 0) n || f n)
-lowest-more f n =
-    elim (decLt (lowest f n 0) n) [
-      | yes less ↦
-          let holds : f (lowest f n 0) ≡ true = lowest-holds f n 0 (omega arith) in
-          lt-ltb (lowest f (suc n) 0) (suc n) (lowest-some f (suc n) (lowest f n 0) (omega arith) holds)
-          ∙ rw (lt-ltb (lowest f n 0) n less)
-      | no more ↦
-          rw (le-ltb (lowest f n 0) n (omega arith))
-          (by (f n) (λ e. lt-ltb (lowest f (suc n) 0) (suc n) (lowest-some f (suc n) n (omega arith) e) ∙ sym e)
-          (λ e. le-ltb (lowest f (suc n) 0) (suc n) (omega (arith, lowest-none f (suc n) 0 (λ i p q. earlier more i e q))) ∙ sym e))
-    ]
-  where
-    earlier : (lowest f n 0 < n → ⊥) → (i : ℕ) → f n ≡ false → i < 0 + suc n → f i ≡ false
-    earlier more i e q =
-        elim (ℕ-discrete i n) [
-          | yes same ↦ rw same e
-          | no other ↦ lowest-before f n 0 i (omega arith) (omega arith)
-        ]
-
 -- with one entry more a module is listed that was so before, or that this entry names
 pub listed-more : (l : List ℕ) (n x y : ℕ) → listed l (suc n) x y ≡ (listed l n x y || entryAt l x y n)
 unfolding firstEntry
@@ -160,7 +130,7 @@ entry-row l k x y h = go (eqb (entryColumn l k) x) (eqb (entryRow l k) y) (ne-eq
     go true b e = e
     go false b e = refl
 
--- no two entries of a sound list stand at one place
+-- No two entries of a sound list stand at one place.
 pub entries-differ : (p : Params) (l : List ℕ) → SoundList p l → (i k : ℕ) → i < k → k < entries l
     → entryColumn l i ≡ entryColumn l k → entryRow l i ≡ entryRow l k → ⊥
 unfolding firstEntry entryAt

@@ -5,20 +5,20 @@ use Prim.Native.Nat.{ℕ, zero, suc, _+_, _-_, _≤_, _<_}
 use mathlib.Core.Path.{_≡_, refl, sym, ap, _∙_, subst, subst⁻¹}
 use mathlib.Core.Bool.{Bool, true, false, cond, _||_}
 use mathlib.Core.Logic.{inl, inr}
-use mathlib.Core.List.{List, [], _∷_, _++_, append-nil}
+use mathlib.Core.List.{List, [], _∷_, _++_}
 use native.Mathlib.Nat.{zero-add}
 use native.Mathlib.Omega.{arith}
 use native.Mathlib.Decide.{ℕ-discrete, decLt}
 use lib.Dec.{eqb}
-use lib.ListN.{length, getD, length-append, length-set, List·getD-append, List·getD-eq-default}
-use lib.Seq.{getD-at, getD-set-same, getD-set-other, set-out}
+use lib.ListN.{length, getD, length-set, List·getD-eq-default}
+use lib.Seq.{getD-set-same, getD-set-other, set-out}
 use borrow.Author.Tests.{ltb-true, ltb-false, eqb-true, eqb-false, lt-ltb, le-ltb, eq-eqb, ne-eqb}
-use Rattle.symbology.specs.Ranges.{tabulate, those, lowest, has}
+use Rattle.symbology.specs.Ranges.{tabulate, those, has}
 use Rattle.symbology.specs.Bits.{AllBits}
 use Rattle.symbology.specs.Matrix.{BitMatrix, checkOf, checksOf}
 use Rattle.symbology.specs.Rule.{bitSum, unmet, unmetCount, unmetAt, metAt, isSuspect, suspect, turned, ends}
 use Rattle.symbology.specs.Mending.{LowestSuspect, Ended}
-use Rattle.laws.proofs.Ranges.{by, clash, or-left, or-right, or-none, lowest-to, lowest-holds, lowest-before, lowest-none, length-tabulate, getD-tabulate, has-append, has-those-past}
+use Rattle.laws.proofs.Ranges.{by, clash, or-left, or-right, or-none, lowest-to, lowest-holds, lowest-before, lowest-none, length-tabulate, getD-tabulate, has-append, has-those-past, lowest-is, those-out, those-ascending, those-in, those-under, has-at, Ascending, AllUnder}
 
 -- ---- checks that name no place twice
 
@@ -30,16 +30,6 @@ Once (j ∷ js) = (has j js ≡ false) × Once js
 -- none of the checks names a place twice; past their end stands the empty check
 abbrev pub AllOnce : List (List ℕ) → Type 0
 AllOnce cs = (i : ℕ) → Once (getD cs i [])
-
-has-at : (c : List ℕ) (q : ℕ) → q < length c → has (getD c q 0) c ≡ true
-unfolding has
-has-at [] q h = absurd (omega arith)
-has-at (x ∷ c) zero h = rw (eq-eqb x x refl) refl
-has-at (x ∷ c) (suc q) h = go (eqb (getD c q 0) x) (has-at c q (omega arith))
-  where
-    go : (t : Bool) → has (getD c q 0) c ≡ true → (t || has (getD c q 0) c) ≡ true
-    go true e = refl
-    go false e = e
 
 -- The places of a check that names none twice differ from one another.
 pub once-apart : (c : List ℕ) → Once c → (p q : ℕ) → p < q → q < length c → getD c p 0 ≡ getD c q 0 → ⊥
@@ -57,14 +47,6 @@ once-snoc (x ∷ c) n o h =
       once-snoc c n (o .1) (or-right (eqb n x) (has n c) h),
     )
 
-those-in : (n : ℕ) (f : ℕ → Bool) → f n ≡ true → those (suc n) f ≡ those n f ++ (n ∷ [])
-unfolding those
-those-in n f e = rw e refl
-
-those-out : (n : ℕ) (f : ℕ → Bool) → f n ≡ false → those (suc n) f ≡ those n f
-unfolding those
-those-out n f e = rw (e, append-nil (those n f)) refl
-
 once-those : (n : ℕ) (f : ℕ → Bool) → Once (those n f)
 unfolding those
 once-those zero f = tt
@@ -80,44 +62,6 @@ checks-once k n a i =
       | yes h ↦ rw (getD-tabulate k (checkOf n a) [] i h) (once-those n (a i))
       | no h ↦ rw (List·getD-eq-default (tabulate k (checkOf n a)) [] {n = i} (omega (arith, length-tabulate k (checkOf n a)))) tt
     ]
-
--- each number of the list is below n
-abbrev pub AllUnder : ℕ → List ℕ → Type 0
-AllUnder n c = (q : ℕ) → q < length c → getD c q 0 < n
-
--- each number of the list is above those before it
-abbrev pub Ascending : List ℕ → Type 0
-Ascending c = (p q : ℕ) → p < q → q < length c → getD c p 0 < getD c q 0
-
-under-snoc : (c : List ℕ) (n : ℕ) → AllUnder n c → AllUnder (suc n) (c ++ (n ∷ []))
-under-snoc c n u q h =
-    elim (decLt q (length c)) [
-      | yes l ↦ omega (arith, List·getD-append c (n ∷ []) 0 q l, u q l)
-      | no l ↦ omega (arith, getD-at c n [] 0 q (omega (arith, length-append c (n ∷ []))))
-    ]
-
-ascending-snoc : (c : List ℕ) (n : ℕ) → Ascending c → AllUnder n c → Ascending (c ++ (n ∷ []))
-ascending-snoc c n a u p q l h =
-    let len : length (c ++ (n ∷ [])) ≡ length c + 1 = length-append c (n ∷ []) in
-    let first : getD (c ++ (n ∷ [])) p 0 ≡ getD c p 0 = List·getD-append c (n ∷ []) 0 p (omega arith) in
-    elim (decLt q (length c)) [
-      | yes k ↦ omega (arith, List·getD-append c (n ∷ []) 0 q k, a p q l k)
-      | no k ↦ omega (arith, getD-at c n [] 0 q (omega arith), u p (omega arith))
-    ]
-
-those-under : (n : ℕ) (f : ℕ → Bool) → AllUnder n (those n f)
-unfolding those
-those-under zero f = λ q h. absurd (omega arith)
-those-under (suc n) f =
-    by (f n) (λ e. subst⁻¹ (AllUnder (suc n)) (those-in n f e) (under-snoc (those n f) n (those-under n f)))
-    (λ e. subst⁻¹ (AllUnder (suc n)) (those-out n f e) (λ q h. omega (arith, those-under n f q h)))
-
-those-ascending : (n : ℕ) (f : ℕ → Bool) → Ascending (those n f)
-unfolding those
-those-ascending zero f = λ p q l h. absurd (omega arith)
-those-ascending (suc n) f =
-    by (f n) (λ e. subst⁻¹ Ascending (those-in n f e) (ascending-snoc (those n f) n (those-ascending n f) (those-under n f)))
-    (λ e. subst⁻¹ Ascending (those-out n f e) (those-ascending n f))
 
 -- The columns that a check of a matrix names ascend.
 pub check-ascends : (n : ℕ) (a : BitMatrix) (i : ℕ) → Ascending (checkOf n a i)
@@ -215,13 +159,6 @@ suspect-lowest cs w h =
       suspected = ltb-true (metAt cs w j) (unmetAt cs w j) (lowest-holds (isSuspect cs w) (length w) 0 (omega arith));
       none-below = λ i l. ltb-false (metAt cs w i) (unmetAt cs w i) (lowest-before (isSuspect cs w) (length w) 0 i (omega arith) l);
     }
-
-lowest-is : (f : ℕ → Bool) (n j : ℕ) → j < n → f j ≡ true → ((i : ℕ) → i < j → f i ≡ false) → lowest f n 0 ≡ j
-lowest-is f n j h t none =
-    elim (decLt (lowest f n 0) j) [
-      | yes l ↦ clash (lowest-holds f n 0 (omega arith)) (none (lowest f n 0) l)
-      | no l ↦ elim (decLt j (lowest f n 0)) [ yes k ↦ clash t (lowest-before f n 0 j (omega arith) k) | no k ↦ omega arith ]
-    ]
 
 -- The lowest suspect bit is the one that the search finds.
 pub lowest-suspect : (cs : List (List ℕ)) (w : List ℕ) (j : ℕ) → LowestSuspect cs w j → suspect cs w ≡ j

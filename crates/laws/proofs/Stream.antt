@@ -115,7 +115,7 @@ codes-number zero (over k out) h = h
 codes-number (suc f) (at m e bs out) h = codes-number f (readCode m e bs out) (code-number m e bs out)
 codes-number (suc f) (over k out) h = h
 
--- the reader's number is 0, 12 or 13
+-- The number of a stream that is read is 0, 12 or 13, and nothing else.
 pub decode-number : (bs : List ℕ) → (decode bs .number ≡ 0) ⊎ (decode bs .number ≡ 12) ⊎ (decode bs .number ≡ 13)
 unfolding decode
 decode-number bs = codes-number (suc (length bs)) (at Upper Latched bs []) tt

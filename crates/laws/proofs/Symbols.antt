@@ -20,14 +20,14 @@ use Rattle.symbology.specs.Write.{matrixFor, codewordFor}
 use Rattle.symbology.specs.Rule.{unmetCount}
 use Rattle.symbology.specs.Codeword.{messageColumns}
 use Rattle.symbology.specs.Read.{checksFor, messageBitsFor}
-use Rattle.laws.proofs.Ranges.{getD-tabulate, has-those}
+use Rattle.laws.proofs.Ranges.{getD-tabulate, has-those, Ascending}
 use Rattle.laws.proofs.Counting.{number-ext}
 use Rattle.laws.proofs.Tests.{Legal}
 use Rattle.laws.proofs.Reserved.{sound-list}
 use Rattle.laws.proofs.DataModules.{free, data-free, data-count}
 use Rattle.laws.proofs.Placement.{filled-below, sampled-filled}
 use Rattle.laws.proofs.Matrix.{column-weight, check-weight}
-use Rattle.laws.proofs.Rule.{Ascending, check-ascends}
+use Rattle.laws.proofs.Rule.{check-ascends}
 use Rattle.laws.proofs.Sizes.{capacity-is, gross-most, net-fits}
 use Rattle.laws.proofs.Codeword.{IsCodeword, codeword-is, codeword-found, message-back}
 

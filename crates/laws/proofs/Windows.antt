@@ -1,11 +1,10 @@
 -- Sums over a side: what only the five coordinates around each core count for is counted core by core.
 -- Assumes nothing.
-use Prim.Native.Nat.{ℕ, zero, suc, _+_, _-_, _≤_, _<_}
-use mathlib.Core.Path.{_≡_, refl, sym, ap, _∙_}
+use Prim.Native.Nat.{ℕ, suc, _+_, _-_, _≤_, _<_}
+use mathlib.Core.Path.{_≡_, refl, ap, _∙_}
 use mathlib.Core.Bool.{Bool, true, false, cond, _&&_}
 use mathlib.Core.List.{List, [], _∷_}
 use native.Mathlib.Omega.{arith}
-use native.Mathlib.Decide.{ℕ-discrete}
 use lib.Dec.{leb}
 use lib.ListN.{length}
 use borrow.Author.Tests.{leb-true, le-leb, lt-leb}
@@ -13,41 +12,9 @@ use Rattle.symbology.specs.declared.Near.{Near}
 use Rattle.symbology.specs.declared.Near.the-variants.{Apart, Core}
 use Rattle.symbology.specs.Ranges.{sumFrom}
 use Rattle.symbology.specs.Patterns.{nearCore}
-use Rattle.laws.proofs.Ranges.{and-left, and-right, sum-ext, sum-split, sum-shift, sum-zero, sum-add}
+use Rattle.laws.proofs.Ranges.{and-left, and-right}
+use Rattle.laws.proofs.Sums.{sum-ext, sum-split, sum-zero, sum-from}
 use Rattle.laws.proofs.Sides.{spaced}
-
--- ---- sums
-
--- a sum from a on as one from 0 on
-pub sum-from : (f : ℕ → ℕ) (a n : ℕ) → sumFrom a n f ≡ sumFrom 0 n (λ i. f (a + i))
-sum-from f zero n = sum-ext f (λ i. f (0 + i)) 0 n (λ i p q. ap f (omega arith))
-sum-from f (suc a) n =
-    sum-shift f a n ∙ sum-from (λ i. f (suc i)) a n
-    ∙ sum-ext (λ i. f (suc (a + i))) (λ i. f (suc a + i)) 0 n (λ i p q. ap f (omega arith))
-
--- a sum of sums in the other order
-pub sum-swap : (f : ℕ → ℕ → ℕ) (a m b n : ℕ) → sumFrom a m (λ i. sumFrom b n (f i)) ≡ sumFrom b n (λ j. sumFrom a m (λ i. f i j))
-unfolding sumFrom
-sum-swap f a zero b n = sym (sum-zero (λ j. 0) b n (λ j p q. refl))
-sum-swap f a (suc m) b n =
-    ap (λ (s : ℕ). sumFrom b n (f a) + s) (sum-swap f (suc a) m b n) ∙ sym (sum-add (f a) (λ j. sumFrom (suc a) m (λ i. f i j)) b n)
-
--- two functions that differ by d at one number
-pub sum-point : (f g : ℕ → ℕ) (d k a n : ℕ) → a ≤ k → k < a + n → f k ≡ g k + d
-    → ((i : ℕ) → a ≤ i → i < a + n → (i ≡ k → ⊥) → f i ≡ g i) → sumFrom a n f ≡ sumFrom a n g + d
-unfolding sumFrom
-sum-point f g d k a zero low high here others = absurd (omega arith)
-sum-point f g d k a (suc n) low high here others =
-    elim (ℕ-discrete a k) [
-      | yes e ↦
-          let first : f a ≡ g a + d = rw e here in
-          omega (arith, sum-ext f g (suc a) n (λ i p q. others i (omega arith) (omega arith) (λ s. omega arith)))
-      | no e ↦
-          let first : f a ≡ g a = others a (omega arith) (omega arith) e in
-          let least : suc a ≤ k = omega arith in
-          let most : k < suc a + n = omega arith in
-          omega (arith, sum-point f g d k (suc a) n least most here (λ i p q. others i (omega arith) (omega arith)))
-    ]
 
 -- ---- windows
 
