@@ -162,7 +162,7 @@ runs-bits (suc n) [] = λ i. omega arith
 runs-bits (suc n) (b ∷ bs) =
     append-bits (byteRun (take 8206 (b ∷ bs))) (byteRuns n (drop 8206 (b ∷ bs))) (run-bits (take 8206 (b ∷ bs))) (runs-bits n (drop 8206 (b ∷ bs)))
 
--- the byte-mode stream is made of bits
+-- The byte-mode stream is made of bits.
 pub stream-bits : (m : List ℕ) → AllBits (byteStream m)
 unfolding byteStream
 stream-bits m = runs-bits (length m) m
@@ -275,7 +275,7 @@ length-runs (suc n) (b ∷ bs) h = go (length-runs n (drop 8205 bs))
           ∙ sym (length-more (suc (length bs)) (omega arith))
     ]
 
--- the length of the byte-mode stream, by the length of the message
+-- The length of the byte-mode stream follows from that of the message.
 pub stream-length : (m : List ℕ) → length (byteStream m) ≡ streamLength (length m)
 unfolding byteStream
 stream-length m = length-runs (length m) m (omega arith)

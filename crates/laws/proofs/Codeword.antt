@@ -220,7 +220,7 @@ module _ {k n : ℕ} {a : BitMatrix} {m : List ℕ} where
 -- ---- it exists
 
 module _ (k n : ℕ) (a : BitMatrix) (m : List ℕ) (bits : AllBits m) where
-  -- the bit of the message that column c takes if it's a message column
+  -- the bit of the message that column c takes if it is a message column
   taken : ℕ → Bool
   taken c = bitAt m (length (those c (λ j. not (isCheckColumn k n a j))))
 
@@ -255,7 +255,7 @@ module _ (k n : ℕ) (a : BitMatrix) (m : List ℕ) (bits : AllBits m) where
       at : (c : ℕ) → c < n → getD some-word c 0 ≡ tally (v c)
       at c h = getD-tabulate n (λ c. tally (v c)) 0 c h
 
-  -- Every message has a codeword, and it's the one that the definition's search finds.
+  -- Every message has a codeword, and it is the one that the definition's search finds.
   pub codeword-is : IsCodeword k n a m (codeword k n a m)
   codeword-is = codeword-first some-codeword
 

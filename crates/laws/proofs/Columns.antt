@@ -43,7 +43,7 @@ pub record SumWord (k n : ℕ) (a : BitMatrix) (l : List ℕ) (v : ℕ → Bool)
   pub inside : (c : ℕ) → word c ≡ true → has c l ≡ true
   pub adds : (i : ℕ) → i < k → dot n (a i) word ≡ v i
 
--- a sum of columns of a list gives such a word
+-- A sum of columns of a list gives such a word.
 pub sum-word : (k n : ℕ) (a : BitMatrix) (l : List ℕ) (v : ℕ → Bool) → ((c : ℕ) → has c l ≡ true → c < n) → isSum k (map (column a) l) v ≡ true
     → SumWord k n a l v
 unfolding isSum
@@ -69,7 +69,7 @@ sum-word k n a (x ∷ l) v low e =
     low′ : (c : ℕ) → has c l ≡ true → c < n
     low′ c o = low c (has-wider c x l o)
 
--- such a word gives a sum of columns of the list
+-- Such a word gives a sum of columns of the list.
 pub word-sum : (k n : ℕ) (a : BitMatrix) (l : List ℕ) (v w : ℕ → Bool) → ((c : ℕ) → has c l ≡ true → c < n)
     → ((c : ℕ) → c < n → w c ≡ true → has c l ≡ true) → ((i : ℕ) → i < k → dot n (a i) w ≡ v i) → isSum k (map (column a) l) v ≡ true
 unfolding isSum
@@ -161,7 +161,7 @@ module _ (k n : ℕ) (a : BitMatrix) where
             ∙ sym (ap (λ (b : Bool). isCheckColumn k n a c && b) (le-leb (n - m) c (omega arith)) ∙ and-true (isCheckColumn k n a c))
       ]
 
-  -- Going from the last column to the first, a column is a check column exactly when it's no sum of the check columns already taken.
+  -- Going from the last column to the first, a column is a check column exactly when it is no sum of the check columns already taken.
   pub check-literal : (j : ℕ) → j < n → isCheckColumn k n a j ≡ not (isSum k (map (λ c i. a i c) (checkColumns k n a (n - suc j))) (λ i. a i j))
   check-literal j h =
       let m : ℕ = n - suc j in

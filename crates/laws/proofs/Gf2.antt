@@ -205,7 +205,7 @@ meets-ext k n a b v w p q m i h = sym (dot-ext n (a i) (b i) v w (p i h) q) ∙ 
 abbrev pub bitAt : List ℕ → ℕ → Bool
 bitAt w j = eqb (getD w j 0 % 2) 1
 
--- of a list of bits it's the test of the element itself
+-- of a list of bits it is the test of the element itself
 pub bitAt-is : (w : List ℕ) → AllBits w → (j : ℕ) → bitAt w j ≡ eqb (getD w j 0) 1
 bitAt-is w h j =
     let l : getD w j 0 ≤ 1 = h j in

@@ -69,7 +69,7 @@ module _ (k n : ℕ) (a : BitMatrix) (chk : ℕ → Bool) (law : CheckColumnLaws
 
   -- ---- at least one word
 
-  -- the message column m brings nothing: it's a check column, or its bit is 0
+  -- the message column m brings nothing: it is a check column, or its bit is 0
   solution-keep : (b : ℕ → Bool) (m : ℕ) → (chk m ≡ false → b m ≡ false) → Solution k n a chk b m → Solution k n a chk b (suc m)
   solution-keep b m z s = record { word = s .word; met = s .met; given = λ c h t. s .given c h t ∙ more c t }
     where

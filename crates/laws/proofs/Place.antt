@@ -164,7 +164,7 @@ module _ (d n : ℕ) (small : d < 2 ^ 32) (few : n ≤ 4096) where
   pub raw-le : rawPlace d n ≤ n
   raw-le = omega (arith, raw-whole, product-le)
 
-  -- The place in single precision is the place in whole numbers.
+  -- For every draw and up to 4,096 places the place in single precision is the place in whole numbers.
   pub place-whole : placeOf d n ≡ wholePlace d n
   unfolding placeOf wholePlace
   place-whole = ap (λ (r : ℕ). capped r n) raw-whole
@@ -180,7 +180,7 @@ module _ (d n : ℕ) (small : d < 2 ^ 32) (few : n ≤ 4096) where
       under-at (scaled d n) (nearestSingle (nearestSingle d * n) * 2 ^ 117) (2 ^ 149) (pow-pos 149) scaled-value
       (lt-of-le-of-lt (mul-le-mul-right (2 ^ 117) bound) (lit≤ tt))
 
--- With n places left, the place of a draw is below n.
+-- With n places left, from 1 to 4,096, the place of a draw is below n.
 pub place-lt : (d n : ℕ) → d < 2 ^ 32 → 0 < n → n ≤ 4096 → placeOf d n < n
 unfolding placeOf
 place-lt d n small some few = go (eqb (rawPlace d n) n) refl
