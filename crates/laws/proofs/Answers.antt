@@ -159,7 +159,7 @@ unfolding writeAnswer writeTests
 write-answer p l message modules work =
     let row6 : Row Answer = on (exceeds (length (byteStream message)) (sizesFor p l .net)) (answer 6 0) in
     subst⁻¹ WriteAnswerIs (first-append (frontTests answer p l modules work) (row6 ∷ []) (answer 0 0))
-    (front-keeps WriteAnswerIs answer p l modules work (firstOf (row6 ∷ []) (answer 0 0))
+    (front-keeps answer p l modules work WriteAnswerIs (firstOf (row6 ∷ []) (answer 0 0))
     (λ k place low high where-zero. record { number-most = omega arith; place-is = where-zero })
     (first-keeps WriteAnswerIs row6 [] (answer 0 0) (λ t. record { number-most = omega arith; place-is = inr refl })
     (subst⁻¹ WriteAnswerIs (first-none (answer 0 0)) (record { number-most = omega arith; place-is = inr refl }))))

@@ -20,7 +20,8 @@ use Rattle.symbology.specs.Sides.{columns, rows}
 use Rattle.symbology.specs.Patterns.{covered, patternColour}
 use Rattle.symbology.specs.Reserved.{entries, entryColumn, entryRow, entryColour, entryAt, firstEntry}
 use Rattle.symbology.specs.Placement.{patternCell, cellOf, cellAt, onCell, dataModule, moduleAt, filled}
-use Rattle.laws.proofs.Ranges.{by, clash, and-left, and-right, lowest-holds, lowest-before}
+use Rattle.symbology.proofs.Ranges.{clash, and-left, and-right}
+use Rattle.laws.proofs.Ranges.{by, lowest-holds, lowest-before}
 use Rattle.laws.proofs.Reserved.{SoundList, entries-differ, entry-own, listed}
 use Rattle.laws.proofs.Placement.{getD-filled}
 

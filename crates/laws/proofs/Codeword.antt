@@ -18,7 +18,8 @@ use Rattle.symbology.specs.Bits.{AllBits}
 use Rattle.symbology.specs.Matrix.{BitMatrix, checksOf}
 use Rattle.symbology.specs.Rule.{unmetCount}
 use Rattle.symbology.specs.Codeword.{isCheckColumn, messageColumns, carries, words, firstWord, codeword, messageBits}
-use Rattle.laws.proofs.Ranges.{by, clash, and-left, and-right, and-both, length-tabulate, getD-tabulate, tally-le}
+use Rattle.symbology.proofs.Ranges.{clash, and-left, and-right}
+use Rattle.laws.proofs.Ranges.{by, and-both, length-tabulate, getD-tabulate, tally-le}
 use Rattle.laws.proofs.Gf2.{dot, Meets, meets-ext, bitAt, bit-same, unmet-meets, meets-none}
 use Rattle.laws.proofs.Kernel.{unique, exists}
 use Rattle.laws.proofs.Columns.{check-laws}

@@ -13,7 +13,8 @@ use borrow.Author.Tests.{le-leb, lt-leb, not-true, not-false}
 use Rattle.symbology.specs.Ranges.{has}
 use Rattle.symbology.specs.Matrix.{BitMatrix}
 use Rattle.symbology.specs.Codeword.{isSum, checkColumns, isCheckColumn}
-use Rattle.laws.proofs.Ranges.{by, clash, and-left, below-true, all-below, has-later, has-first, has-none, has-wider}
+use Rattle.symbology.proofs.Ranges.{clash, and-left, below-true}
+use Rattle.laws.proofs.Ranges.{by, all-below, has-later, has-first, has-none, has-wider}
 use Rattle.laws.proofs.Gf2.{dot, parity-none, turn, turn-at, turn-past, dot-turn, xor-none, xor-back, xor-comm, xor-same, and-no}
 use Rattle.laws.proofs.Kernel.{Dependency, CheckColumnLaws}
 

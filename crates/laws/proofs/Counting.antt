@@ -12,7 +12,8 @@ use lib.Dec.{eqb, ltb}
 use lib.ListN.{length, length-append}
 use borrow.Author.Tests.{eq-eqb, ne-eqb, le-ltb, lt-ltb, eqb-true}
 use Rattle.symbology.specs.Ranges.{tally, tabulate, those}
-use Rattle.laws.proofs.Ranges.{those-ext, by, and-left, and-right}
+use Rattle.symbology.proofs.Ranges.{and-left, and-right}
+use Rattle.laws.proofs.Ranges.{those-ext, by}
 
 -- ---- factors
 

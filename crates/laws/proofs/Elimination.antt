@@ -9,7 +9,8 @@ use native.Mathlib.Decide.{ℕ-discrete, decLt}
 use lib.Dec.{ltb, eqb}
 use borrow.Author.Tests.{eq-eqb, ne-eqb, lt-ltb, le-ltb, ltb-true, not-true}
 use Rattle.symbology.specs.Matrix.{BitMatrix}
-use Rattle.laws.proofs.Ranges.{by, clash, and-left, and-right, or-right}
+use Rattle.symbology.proofs.Ranges.{clash, and-left, and-right}
+use Rattle.laws.proofs.Ranges.{by, or-right}
 use Rattle.laws.proofs.Gf2.{dot, parity-none, parity-only, dot-ext, dot-xor, xor-dot, scale-dot, turn, turn-at, turn-past, dot-turn, Meets, meets-ext, xor-none, none-xor, xor-same, and-no}
 use Rattle.laws.proofs.Kernel.{Dependency, CheckColumnLaws}
 

@@ -9,7 +9,8 @@ use native.Mathlib.Decide.{ℕ-discrete, decLt}
 use lib.Dec.{ltb}
 use borrow.Author.Tests.{lt-ltb, le-ltb}
 use Rattle.symbology.specs.Matrix.{BitMatrix}
-use Rattle.laws.proofs.Ranges.{by, clash}
+use Rattle.symbology.proofs.Ranges.{clash}
+use Rattle.laws.proofs.Ranges.{by}
 use Rattle.laws.proofs.Gf2.{parity-none, Meets, meets-xor, xor-none, none-xor, xor-same, xor-equal}
 
 -- column j is the sum of later check columns: a word of the kernel whose first 1 is at j and whose other ones are in check columns

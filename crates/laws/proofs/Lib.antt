@@ -7,7 +7,6 @@ pub mod Bits
 pub mod Counting
 pub mod Parameters
 -- layout
-pub mod Sides
 pub mod Windows
 pub mod Patterns
 pub mod Reserved

@@ -14,7 +14,8 @@ use borrow.Author.Tests.{ne-eqb, eqb-true, eqb-false}
 use Rattle.symbology.specs.Ranges.{tally, tabulate}
 use Rattle.symbology.specs.Bits.{AllBits, anyOne}
 use Rattle.symbology.specs.Net.{withEndMark, upToLastOne, streamIn, stuffing}
-use Rattle.laws.proofs.Ranges.{by, clash, or-left, or-right, or-none, length-tabulate, getD-tabulate, tally-le, tally-none}
+use Rattle.symbology.proofs.Ranges.{clash}
+use Rattle.laws.proofs.Ranges.{by, or-left, or-right, or-none, length-tabulate, getD-tabulate, tally-le, tally-none}
 use Rattle.laws.proofs.Bits.{append-bits, zero-bits}
 
 -- ---- bits up to the last 1

@@ -21,10 +21,10 @@ use Rattle.symbology.specs.Sides.{columns, rows, coresOf, innerPatterns}
 use Rattle.symbology.specs.Patterns.{nearCore, finder, cornerAlignment, innerAlignment, patternOf, inSquares, colourIn, meeting, patternAt, covered, patternColour}
 use Rattle.symbology.specs.Parameters.{inRange}
 use Rattle.symbology.specs.Capacity.{patternModules}
-use Rattle.laws.proofs.Ranges.{below-true}
+use Rattle.symbology.proofs.Ranges.{below-true}
+use Rattle.symbology.proofs.Sides.{spaced, cores-spaced, cores-least, cores-most}
 use Rattle.laws.proofs.Sums.{sum-ext, sum-shift, sum-zero, sum-swap}
 use Rattle.laws.proofs.Parameters.{InRange, ranges}
-use Rattle.laws.proofs.Sides.{spaced, cores-spaced, cores-least, cores-most}
 use Rattle.laws.proofs.Windows.{countNear, windows}
 
 -- ---- one pattern

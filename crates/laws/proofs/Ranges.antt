@@ -3,9 +3,7 @@
 use Prim.Native.Nat.{ℕ, zero, suc, _+_, _≤_, _<_}
 use mathlib.Core.Path.{_≡_, refl, sym, ap, _∙_, subst⁻¹, ap₂}
 use mathlib.Core.Bool.{Bool, true, false, cond, _&&_, _||_, or-true}
-use mathlib.Core.Logic.{_⊎_, inl, inr}
 use mathlib.Core.List.{List, [], _∷_, _++_, append-nil}
-use native.Mathlib.Nat.{eq-or-lt-of-le, le-of-suc-le-suc}
 use native.Mathlib.Omega.{arith}
 use native.Mathlib.Decide.{ℕ-discrete, decLt}
 use lib.Dec.{eqb, ltb, leb}
@@ -13,6 +11,7 @@ use lib.ListN.{length, getD, length-append, List·getD-append}
 use lib.Seq.{getD-at, ext-getD}
 use borrow.Author.Tests.{eq-eqb, ne-eqb, lt-ltb, leb-true, le-ltb}
 use Rattle.symbology.specs.Ranges.{tally, allBelow, tabulate, those, lowest, has, allHold, within}
+use Rattle.symbology.proofs.Ranges.{clash, and-left, and-right}
 
 -- ---- tests
 
@@ -20,17 +19,6 @@ use Rattle.symbology.specs.Ranges.{tally, allBelow, tabulate, those, lowest, ha
 pub by {ℓ} : {X : Type ℓ} (b : Bool) → (b ≡ true → X) → (b ≡ false → X) → X
 by true f g = f refl
 by false f g = g refl
-
-pub clash {ℓ} : {X : Type ℓ} {b : Bool} → b ≡ true → b ≡ false → X
-clash {b = b} p q = absurd (let y : _≡_ {A = ℕ} 0 1 = sym (ap tally q) ∙ ap tally p in omega arith)
-
-pub and-left : (a b : Bool) → (a && b) ≡ true → a ≡ true
-and-left true b e = refl
-and-left false b e = e
-
-pub and-right : (a b : Bool) → (a && b) ≡ true → b ≡ true
-and-right true b e = e
-and-right false b e = clash e refl
 
 pub and-both : (a b : Bool) → a ≡ true → b ≡ true → (a && b) ≡ true
 and-both true b p q = q
@@ -62,15 +50,6 @@ at-each (t ∷ ts) e zero = and-left t (allHold ts) e
 at-each (t ∷ ts) e (suc i) = at-each ts (and-right t (allHold ts) e) i
 
 -- ---- a test at all numbers below a bound
-
-pub below-true : (f : ℕ → Bool) (n : ℕ) → allBelow n f ≡ true → (i : ℕ) → i < n → f i ≡ true
-unfolding allBelow
-below-true f zero e i h = absurd (omega arith)
-below-true f (suc n) e i h = go (below-true f n (and-left (allBelow n f) (f n) e) i) (eq-or-lt-of-le (le-of-suc-le-suc h))
-  where
-    go : (i < n → f i ≡ true) → (i ≡ n) ⊎ (i < n) → f i ≡ true
-    go earlier (inl same) = subst⁻¹ (λ (k : ℕ). f k ≡ true) same (and-right (allBelow n f) (f n) e)
-    go earlier (inr less) = earlier less
 
 pub all-below : (f : ℕ → Bool) (n : ℕ) → ((i : ℕ) → i < n → f i ≡ true) → allBelow n f ≡ true
 unfolding allBelow

@@ -15,7 +15,8 @@ use Rattle.symbology.specs.Ranges.{within, lowest}
 use Rattle.symbology.specs.Sides.{columns, rows}
 use Rattle.symbology.specs.Patterns.{covered, patternColour}
 use Rattle.symbology.specs.Reserved.{entries, entryColumn, entryRow, entryColour, entryAt, firstEntry, badEntry, badAt, entryVerdict, listVerdict}
-use Rattle.laws.proofs.Ranges.{clash, and-left, and-right, and-both, or-left, or-right, lowest-before, lowest-more}
+use Rattle.symbology.proofs.Ranges.{clash, and-left, and-right}
+use Rattle.laws.proofs.Ranges.{and-both, or-left, or-right, lowest-before, lowest-more}
 
 -- entry k lies inside the symbol, on no pattern, at a place that no earlier entry names, with a colour below N
 pub record SoundEntry (p : Params) (l : List ℕ) (k : ℕ) : Type 0 where

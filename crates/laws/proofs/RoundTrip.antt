@@ -218,7 +218,7 @@ done-legal p l message modules work e =
     let row : List (Row Answer) = on (exceeds (length (byteStream message)) (sizesFor p l .net)) (answer 6 0) ∷ [] in
     let number : Answer → ℕ = λ a. a .number in
     let same : number (firstOf (frontTests answer p l modules work) (firstOf row (answer 0 0))) ≡ 0 = sym (ap number (first-append (frontTests answer p l modules work) row (answer 0 0))) ∙ e in
-    front-legal answer number p l modules work (firstOf row (answer 0 0)) (λ n place. refl) same .0
+    front-legal answer p l modules work number (firstOf row (answer 0 0)) (λ n place. refl) same .0
 
 -- A write, done or refused, leaves the matrix as long as it came.
 pub length-write : (p : Params) (l message matrix : List ℕ) (work : ℕ) → length (matrixAfterWrite p l message work matrix) ≡ length matrix

@@ -11,7 +11,8 @@ use borrow.Author.Tests.{eq-eqb, ne-eqb, not-true}
 use Rattle.symbology.specs.Ranges.{those, lowest}
 use Rattle.symbology.specs.Matrix.{BitMatrix}
 use Rattle.symbology.specs.Codeword.{isCheckColumn, messageColumns}
-use Rattle.laws.proofs.Ranges.{and-left, and-right, lowest-holds, lowest-before}
+use Rattle.symbology.proofs.Ranges.{and-left, and-right}
+use Rattle.laws.proofs.Ranges.{lowest-holds, lowest-before}
 use Rattle.laws.proofs.Kernel.{CheckColumnLaws}
 use Rattle.laws.proofs.Columns.{check-laws}
 use Rattle.laws.proofs.Elimination.{Inv, start, clear-message, pivot-check, clear-step, pivot-step}

@@ -21,8 +21,7 @@ use Rattle.symbology.specs.Net.{withEndMark, streamIn, stuffing}
 use Rattle.symbology.specs.Placement.{firstBadModule}
 use Rattle.symbology.specs.Tests.{Row, on, firstOf, frontTests, sizesFor}
 use Rattle.symbology.specs.Read.{refused, counted, done, receivedBits, receivedWord, sameBits, wrongStuffing, checksFor, messageBitsFor, answerFromNet, answerFromAccepted, answerFromReceived, answerFromMatrix, readAnswer, testsBeforeChecks, reachesChecks, messageInAccepted, messageIn}
-use Rattle.laws.proofs.Tests.{Legal, front-legal, front-passed, first-miss, first-none, first-append, first-beyond, first-either, first-keeps, only-row, front-keeps}
-use Rattle.laws.proofs.Ranges.{by}
+use Rattle.laws.proofs.Tests.{Legal, front-legal, first-append, first-either, first-keeps, only-row, front-keeps}
 use Rattle.laws.proofs.Stream.{decode-number}
 use Rattle.laws.proofs.ByteMode.{stream-back}
 use Rattle.laws.proofs.Net.{net-back, length-net, net-some, any-zeros}
@@ -170,59 +169,42 @@ from-matrix p l matrix w room good received long =
     let behind : drop (s .gross) (receivedBits p l matrix) ≡ end = ap (drop (s .gross)) received ∙ drop-at w end (s .gross) long in
     rw (good, le-ltb (length matrix) (length matrix) (omega arith), front, behind, same-self end)
 
--- A read that reaches the checks is legal, and its answer is the one from its received word.
-pub reaches-gives : (p : Params) (l matrix : List ℕ) (work room : ℕ)
-    → reachesChecks p l matrix work ≡ true
-    → Legal p l (length matrix) work × (readAnswer p l matrix work room ≡ answerFromReceived (sizesFor p l) (receivedWord p l matrix) room)
-unfolding reachesChecks testsBeforeChecks readAnswer answerFromMatrix receivedWord
-reaches-gives p l matrix work room e =
-    let s : Sizes = sizesFor p l in
-    let P : ReadAnswer → Type 0 = λ a. a .number ≡ 0 in
-    let number : ReadAnswer → ℕ = λ a. a .number in
-    let bad : ℕ = firstBadModule (p .colours) matrix in
-    let row7 : Row ReadAnswer = on (ltb bad (length matrix)) (refused 7 bad) in
-    let row8 : Row ReadAnswer = on (wrongStuffing s (receivedBits p l matrix)) (refused 8 0) in
-    let d : ReadAnswer = refused 0 0 in
-    let front : List (Row ReadAnswer) = frontTests refused p l (length matrix) work in
-    let zero-is : number (firstOf (front ++ row7 ∷ row8 ∷ []) d) ≡ 0 = eqb-true (number (firstOf (front ++ row7 ∷ row8 ∷ []) d)) 0 e in
-    let behind : number (firstOf front (firstOf (row7 ∷ row8 ∷ []) d)) ≡ 0 = sym (ap number (first-append front (row7 ∷ row8 ∷ []) d)) ∙ zero-is in
-    let passed : Legal p l (length matrix) work × P (firstOf (row7 ∷ row8 ∷ []) d) = front-legal refused number p l (length matrix) work (firstOf (row7 ∷ row8 ∷ []) d) (λ n place. refl) behind in
-    let at7 : (row7 .test ≡ false) × P (firstOf (row8 ∷ []) d) = first-beyond P row7 (row8 ∷ []) d (λ z. omega arith) (passed .1) in
-    let at8 : (row8 .test ≡ false) × P (firstOf [] d) = first-beyond P row8 [] d (λ z. omega arith) (at7 .1) in
-    let next : ReadAnswer = answerFromReceived s (receivedWord p l matrix) room in (
-      passed .0,
-      front-passed refused p l (length matrix) work (answerFromMatrix p l matrix room) (passed .0)
-          ∙ first-miss row7 (row8 ∷ []) next (at7 .0)
-          ∙ first-miss row8 [] next (at8 .0)
-          ∙ first-none next,
-    )
+-- the rows of the tests 7 and 8
+abbrev row7 : Params → List ℕ → Row ReadAnswer
+row7 p matrix = on (ltb (firstBadModule (p .colours) matrix) (length matrix)) (refused 7 (firstBadModule (p .colours) matrix))
+
+abbrev row8 : Params → List ℕ → List ℕ → Row ReadAnswer
+row8 p l matrix = on (wrongStuffing (sizesFor p l) (receivedBits p l matrix)) (refused 8 0)
+
+abbrev matrixRows : Params → List ℕ → List ℕ → List (Row ReadAnswer)
+matrixRows p l matrix = row7 p matrix ∷ row8 p l matrix ∷ []
+
+-- the tests 1 to 8 are 1 to 5, then 7 and 8
+early-parts : (p : Params) (l matrix : List ℕ) (work : ℕ) (d : ReadAnswer)
+    → firstOf (testsBeforeChecks p l matrix work) d ≡ firstOf (frontTests refused p l (length matrix) work) (firstOf (matrixRows p l matrix) d)
+unfolding testsBeforeChecks
+early-parts p l matrix work d = first-append (frontTests refused p l (length matrix) work) (matrixRows p l matrix) d
 
 -- The answer of a read is that of the tests 1 to 8, or the one from its received word.
 pub read-tests : (p : Params) (l matrix : List ℕ) (work room : ℕ)
     → readAnswer p l matrix work room
     ≡ firstOf (testsBeforeChecks p l matrix work) (answerFromReceived (sizesFor p l) (receivedWord p l matrix) room)
-unfolding testsBeforeChecks readAnswer answerFromMatrix receivedWord
-read-tests p l matrix work room =
-    let s : Sizes = sizesFor p l in
-    let bad : ℕ = firstBadModule (p .colours) matrix in
-    let row7 : Row ReadAnswer = on (ltb bad (length matrix)) (refused 7 bad) in
-    let row8 : Row ReadAnswer = on (wrongStuffing s (receivedBits p l matrix)) (refused 8 0) in
-    sym (first-append (frontTests refused p l (length matrix) work) (row7 ∷ row8 ∷ []) (answerFromReceived s (receivedWord p l matrix) room))
+unfolding readAnswer answerFromMatrix receivedWord
+read-tests p l matrix work room = sym (early-parts p l matrix work (answerFromReceived (sizesFor p l) (receivedWord p l matrix) room))
 
 -- what the answers 1 to 8 have, and the one behind them, the answer has
 early-keeps : (Q : ReadAnswer → Type 0) (p : Params) (l matrix : List ℕ) (work : ℕ) (d : ReadAnswer)
     → ((k place : ℕ) → 1 ≤ k → k ≤ 8 → (k ≡ 6 → ⊥) → (k ≡ 2) ⊎ (k ≡ 7) ⊎ (place ≡ 0) → Q (refused k place))
     → Q d
     → Q (firstOf (testsBeforeChecks p l matrix work) d)
-unfolding testsBeforeChecks
 early-keeps Q p l matrix work d early behind =
     let bad : ℕ = firstBadModule (p .colours) matrix in
-    let row7 : Row ReadAnswer = on (ltb bad (length matrix)) (refused 7 bad) in
-    let row8 : Row ReadAnswer = on (wrongStuffing (sizesFor p l) (receivedBits p l matrix)) (refused 8 0) in
-    let from8 : Q (firstOf (row8 ∷ []) d) = only-row Q row8 d (λ t. early 8 0 (omega arith) (omega arith) (λ z. omega arith) (inr (inr refl))) (λ t. behind) in
-    let from7 : Q (firstOf (row7 ∷ row8 ∷ []) d) = first-keeps Q row7 (row8 ∷ []) d (λ t. early 7 bad (omega arith) (omega arith) (λ z. omega arith) (inr (inl refl))) from8 in
-    subst⁻¹ Q (first-append (frontTests refused p l (length matrix) work) (row7 ∷ row8 ∷ []) d)
-    (front-keeps Q refused p l (length matrix) work (firstOf (row7 ∷ row8 ∷ []) d)
+    let at7 : Q (refused 7 bad) = early 7 bad (omega arith) (omega arith) (λ z. omega arith) (inr (inl refl)) in
+    let at8 : Q (refused 8 0) = early 8 0 (omega arith) (omega arith) (λ z. omega arith) (inr (inr refl)) in
+    let from8 : Q (firstOf (row8 p l matrix ∷ []) d) = only-row Q (row8 p l matrix) d (λ t. at8) (λ t. behind) in
+    let from7 : Q (firstOf (matrixRows p l matrix) d) = first-keeps Q (row7 p matrix) (row8 p l matrix ∷ []) d (λ t. at7) from8 in
+    subst⁻¹ Q (early-parts p l matrix work d)
+    (front-keeps refused p l (length matrix) work Q (firstOf (matrixRows p l matrix) d)
     (λ k place low high at. early k place low (omega arith) (λ z. omega arith) (⊎-elim (λ e. inl e) (λ e. inr (inr e)) at)) from7)
 
 -- What the answers 1 to 8 have, 9 to 14 with the counts of the mending, and 0 where the message fits, every answer of a read has.
@@ -243,38 +225,74 @@ read-keeps Q p l matrix work room early late last =
     subst⁻¹ Q (read-tests p l matrix work room)
     (early-keeps Q p l matrix work (answerFromReceived s w room) early (received-keeps Q s w room late last))
 
--- the number that the tests 1 to 8 give is at most 8
-early-number : (p : Params) (l matrix : List ℕ) (work : ℕ) → firstOf (testsBeforeChecks p l matrix work) (refused 0 0) .number ≤ 8
-early-number p l matrix work =
-    early-keeps (λ (a : ReadAnswer). a .number ≤ 8) p l matrix work (refused 0 0) (λ k place low high no6 at. high) (omega arith)
+-- ---- reaching the checks
 
--- A read whose answer is none of 1 to 8 has reached the checks.
-pub reaches-when : (p : Params) (l matrix : List ℕ) (work room : ℕ)
-    → (readAnswer p l matrix work room .number ≡ 0) ⊎ (9 ≤ readAnswer p l matrix work room .number)
-    → reachesChecks p l matrix work ≡ true
-unfolding reachesChecks
-reaches-when p l matrix work room given =
-    let tests : List (Row ReadAnswer) = testsBeforeChecks p l matrix work in
-    let early : ReadAnswer = firstOf tests (refused 0 0) in
-    by (eqb (early .number) 0) (λ e. e) (λ e. absurd (go (first-either tests) (eqb-false (early .number) 0 e) given))
-  where
-    go : ((d : ReadAnswer) → firstOf (testsBeforeChecks p l matrix work) d ≡ d)
-        ⊎ ((a : ReadAnswer) × ((d : ReadAnswer) → firstOf (testsBeforeChecks p l matrix work) d ≡ a))
-        → (firstOf (testsBeforeChecks p l matrix work) (refused 0 0) .number ≡ 0 → ⊥)
-        → (readAnswer p l matrix work room .number ≡ 0) ⊎ (9 ≤ readAnswer p l matrix work room .number)
-        → ⊥
-    go (inl all) some answered = some (ap (λ (a : ReadAnswer). a .number) (all (refused 0 0)))
-    go (inr one) some answered =
-        let next : ReadAnswer = answerFromReceived (sizesFor p l) (receivedWord p l matrix) room in
-        let same : readAnswer p l matrix work room ≡ firstOf (testsBeforeChecks p l matrix work) (refused 0 0) = read-tests p l matrix work room ∙ one .1 next ∙ sym (one .1 (refused 0 0)) in
-        let number : readAnswer p l matrix work room .number ≡ firstOf (testsBeforeChecks p l matrix work) (refused 0 0) .number = ap (λ (a : ReadAnswer). a .number) same in
-        ⊎-elim (λ z. some (sym number ∙ z)) (λ z. omega (arith, number, z, early-number p l matrix work)) answered
+module _ (p : Params) (l matrix : List ℕ) (work : ℕ) where
+  abbrev early : ReadAnswer → ReadAnswer
+  early d = firstOf (testsBeforeChecks p l matrix work) d
 
--- The answer of a read that reaches the checks is none of 1 to 8.
-pub reaches-only : (p : Params) (l matrix : List ℕ) (work room : ℕ)
-    → reachesChecks p l matrix work ≡ true
-    → (readAnswer p l matrix work room .number ≡ 0) ⊎ (9 ≤ readAnswer p l matrix work room .number)
-reaches-only p l matrix work room e =
-    let Q : ReadAnswer → Type 0 = λ a. (a .number ≡ 0) ⊎ (9 ≤ a .number) in
-    subst⁻¹ Q (reaches-gives p l matrix work room e .1)
-    (received-keeps Q (sizesFor p l) (receivedWord p l matrix) room (λ k low high. inr low) (λ fits. inl refl))
+  -- the number that the tests 1 to 8 give is at most 8
+  early-most : early (refused 0 0) .number ≤ 8
+  early-most = early-keeps (λ (a : ReadAnswer). a .number ≤ 8) p l matrix work (refused 0 0) (λ k place low high no6 at. high) (omega arith)
+
+  -- and it is not 0
+  early-some : 1 ≤ early (refused 9 0) .number
+  early-some = early-keeps (λ (a : ReadAnswer). 1 ≤ a .number) p l matrix work (refused 9 0) (λ k place low high no6 at. low) (omega arith)
+
+  -- the tests 1 to 8 refuse nothing, or they give an answer that does not depend on what follows; then its number is 1 to 8
+  either-way : ((d : ReadAnswer) → early d ≡ d) ⊎ ((a : ReadAnswer) × ((d : ReadAnswer) → early d ≡ a) × (1 ≤ a .number) × (a .number ≤ 8))
+  either-way = go (first-either (testsBeforeChecks p l matrix work))
+    where
+      go : ((d : ReadAnswer) → early d ≡ d) ⊎ ((a : ReadAnswer) × ((d : ReadAnswer) → early d ≡ a))
+          → ((d : ReadAnswer) → early d ≡ d) ⊎ ((a : ReadAnswer) × ((d : ReadAnswer) → early d ≡ a) × (1 ≤ a .number) × (a .number ≤ 8))
+      go (inl all) = inl all
+      go (inr one) =
+          let least : early (refused 9 0) .number ≡ one .0 .number = ap (λ (a : ReadAnswer). a .number) (one .1 (refused 9 0)) in
+          let most : early (refused 0 0) .number ≡ one .0 .number = ap (λ (a : ReadAnswer). a .number) (one .1 (refused 0 0)) in
+          inr (one .0, one .1, omega (arith, early-some, least), omega (arith, early-most, most))
+
+  -- A read that reaches the checks is legal, and its answer is the one from its received word.
+  pub reaches-gives : (room : ℕ)
+      → reachesChecks p l matrix work ≡ true
+      → Legal p l (length matrix) work × (readAnswer p l matrix work room ≡ answerFromReceived (sizesFor p l) (receivedWord p l matrix) room)
+  unfolding reachesChecks
+  reaches-gives room e =
+      let number : ReadAnswer → ℕ = λ a. a .number in
+      let zero-is : number (early (refused 0 0)) ≡ 0 = eqb-true (number (early (refused 0 0))) 0 e in
+      let behind : number (firstOf (frontTests refused p l (length matrix) work) (firstOf (matrixRows p l matrix) (refused 0 0))) ≡ 0 = sym (ap number (early-parts p l matrix work (refused 0 0))) ∙ zero-is in (
+        front-legal refused p l (length matrix) work number (firstOf (matrixRows p l matrix) (refused 0 0)) (λ n place. refl) behind .0,
+        read-tests p l matrix work room ∙ go zero-is either-way,
+      )
+    where
+      go : early (refused 0 0) .number ≡ 0
+          → ((d : ReadAnswer) → early d ≡ d) ⊎ ((a : ReadAnswer) × ((d : ReadAnswer) → early d ≡ a) × (1 ≤ a .number) × (a .number ≤ 8))
+          → early (answerFromReceived (sizesFor p l) (receivedWord p l matrix) room) ≡ answerFromReceived (sizesFor p l) (receivedWord p l matrix) room
+      go z (inl all) = all (answerFromReceived (sizesFor p l) (receivedWord p l matrix) room)
+      go z (inr one) =
+          let same : early (refused 0 0) .number ≡ one .0 .number = ap (λ (a : ReadAnswer). a .number) (one .1 (refused 0 0)) in
+          absurd (omega (arith, z, same, one .2))
+
+  -- A read whose answer is none of 1 to 8 has reached the checks.
+  pub reaches-when : (room : ℕ)
+      → (readAnswer p l matrix work room .number ≡ 0) ⊎ (9 ≤ readAnswer p l matrix work room .number)
+      → reachesChecks p l matrix work ≡ true
+  unfolding reachesChecks
+  reaches-when room given = go either-way given
+    where
+      go : ((d : ReadAnswer) → early d ≡ d) ⊎ ((a : ReadAnswer) × ((d : ReadAnswer) → early d ≡ a) × (1 ≤ a .number) × (a .number ≤ 8))
+          → (readAnswer p l matrix work room .number ≡ 0) ⊎ (9 ≤ readAnswer p l matrix work room .number)
+          → eqb (early (refused 0 0) .number) 0 ≡ true
+      go (inl all) answered = ap (λ (a : ReadAnswer). eqb (a .number) 0) (all (refused 0 0))
+      go (inr one) answered =
+          let next : ReadAnswer = answerFromReceived (sizesFor p l) (receivedWord p l matrix) room in
+          let same : readAnswer p l matrix work room .number ≡ one .0 .number = ap (λ (a : ReadAnswer). a .number) (read-tests p l matrix work room ∙ one .1 next) in
+          absurd (⊎-elim (λ z. omega (arith, z, same, one .2)) (λ z. omega (arith, z, same, one .3)) answered)
+
+  -- The answer of a read that reaches the checks is none of 1 to 8.
+  pub reaches-only : (room : ℕ)
+      → reachesChecks p l matrix work ≡ true
+      → (readAnswer p l matrix work room .number ≡ 0) ⊎ (9 ≤ readAnswer p l matrix work room .number)
+  reaches-only room e =
+      let Q : ReadAnswer → Type 0 = λ a. (a .number ≡ 0) ⊎ (9 ≤ a .number) in
+      subst⁻¹ Q (reaches-gives room e .1)
+      (received-keeps Q (sizesFor p l) (receivedWord p l matrix) room (λ k low high. inr low) (λ fits. inl refl))

@@ -21,7 +21,7 @@ use Rattle.symbology.specs.Ranges.{tabulate, allBelow}
 use Rattle.symbology.specs.Characters.{upperCharacters, lowerCharacters, numericCharacters, punctuationCharacters, mixedCharacters, alphanumericCharacters, utf8, utf8Bytes, characterBytes}
 use Rattle.symbology.specs.Modes.{modeWidth, codeWidth, switchOf, charactersOf, bytesOf, modeNumber, endNumber}
 use Rattle.symbology.specs.Stream.{Decoded, Reading, at, over, afterCode, readCode, readCodes, decode}
-use Rattle.laws.proofs.Ranges.{below-true}
+use Rattle.symbology.proofs.Ranges.{below-true}
 
 -- ---- one code
 

@@ -1,7 +1,7 @@
 -- Laws of tables of tests, and what the tests 1 to 5 say of parameters, list and buffers that pass them.
 -- Assumes nothing.
 use Prim.Native.Nat.{ℕ, zero, suc, _*_, _≤_, _<_}
-use mathlib.Core.Path.{_≡_, refl, ap, _∙_, subst⁻¹}
+use mathlib.Core.Path.{_≡_, refl, ap, _∙_}
 use mathlib.Core.Bool.{Bool, true, false, cond, not, _||_}
 use mathlib.Core.Logic.{_⊎_, inl, inr}
 use mathlib.Core.List.{List, [], _∷_, _++_}
@@ -21,7 +21,8 @@ use Rattle.symbology.specs.Parameters.{inRange}
 use Rattle.symbology.specs.Reserved.{listVerdict, listNumber, listPlace}
 use Rattle.symbology.specs.Tests.{Row, on, firstOf, sizesFor, sizeTests, bufferTests, frontTests}
 use Rattle.symbology.specs.Write.{answer, isLegal}
-use Rattle.laws.proofs.Ranges.{by, clash, or-left, or-right, lowest-holds, lowest-before}
+use Rattle.symbology.proofs.Ranges.{clash}
+use Rattle.laws.proofs.Ranges.{by, or-left, or-right, lowest-holds, lowest-before}
 
 -- ---- tables
 
@@ -139,82 +140,82 @@ sound-verdict : (v : ListVerdict) → v ≡ Sound → eqb (listNumber v) 2 ≡ f
 unfolding listNumber
 sound-verdict v e = rw e refl
 
--- Where an answer has the number 0, none of the tests 1 to 5 gave it: what it was given for is legal, and the answer is the one
--- behind them. `number` is the number of an answer.
-pub front-legal : {A : Type 0} (refusal : ℕ → ℕ → A) (number : A → ℕ) (p : Params) (l : List ℕ) (modules room : ℕ) (d : A)
-    → ((n place : ℕ) → number (refusal n place) ≡ n)
-    → number (firstOf (frontTests refusal p l modules room) d) ≡ 0
-    → Legal p l modules room × (number d ≡ 0)
-unfolding firstOf sizeTests bufferTests frontTests
-front-legal {A} refusal number p l modules room d gives e =
-    let s : Sizes = sizesFor p l in
-    let c : ℕ = s .capacity in
-    let v : ListVerdict = listVerdict p l in
-    let P : A → Type 0 = λ a. number a ≡ 0 in
-    let row1 : Row A = on (not (inRange p)) (refusal 1 0) in
-    let row2 : Row A = on (eqb (listNumber v) 2) (refusal 2 (listPlace v)) in
-    let row3 : Row A = on (ltb c (p .wr) || ltb 4096 c) (refusal 3 0) in
-    let row4 : Row A = on (not (eqb modules (s .columns * s .rows))) (refusal 4 0) in
-    let row5 : Row A = on (ltb room (s .work)) (refusal 5 0) in
-    let from5 : List (Row A) = row5 ∷ [] in
-    let from4 : List (Row A) = row4 ∷ from5 in
-    let from3 : List (Row A) = row3 ∷ from4 in
-    let from2 : List (Row A) = row2 ∷ from3 in
-    let at1 : (row1 .test ≡ false) × P (firstOf from2 d) = first-beyond P row1 from2 d (λ z. omega (arith, gives 1 0)) e in
-    let at2 : (row2 .test ≡ false) × P (firstOf from3 d) = first-beyond P row2 from3 d (λ z. omega (arith, gives 2 (listPlace v))) (at1 .1) in
-    let at3 : (row3 .test ≡ false) × P (firstOf from4 d) = first-beyond P row3 from4 d (λ z. omega (arith, gives 3 0)) (at2 .1) in
-    let at4 : (row4 .test ≡ false) × P (firstOf from5 d) = first-beyond P row4 from5 d (λ z. omega (arith, gives 4 0)) (at3 .1) in
-    let at5 : (row5 .test ≡ false) × P (firstOf [] d) = first-beyond P row5 [] d (λ z. omega (arith, gives 5 0)) (at4 .1) in
-    let k : Legal p l modules room = record {
-      in-range = not-false (inRange p) (at1 .0);
-      sound = verdict-sound v (at2 .0);
-      least = ltb-false c (p .wr) (or-left (ltb c (p .wr)) (ltb 4096 c) (at3 .0));
-      most = ltb-false 4096 c (or-right (ltb c (p .wr)) (ltb 4096 c) (at3 .0));
-      whole = eqb-true modules (s .columns * s .rows) (not-false (eqb modules (s .columns * s .rows)) (at4 .0));
-      enough = ltb-false room (s .work) (at5 .0);
-    } in
-    (k, at5 .1)
+module _ {A : Type 0} (refusal : ℕ → ℕ → A) (p : Params) (l : List ℕ) (modules room : ℕ) where
+  -- the rows of the tests 1 to 5
+  abbrev row1 : Row A
+  row1 = on (not (inRange p)) (refusal 1 0)
+
+  abbrev row2 : Row A
+  row2 = on (eqb (listNumber (listVerdict p l)) 2) (refusal 2 (listPlace (listVerdict p l)))
+
+  abbrev row3 : Row A
+  row3 = on (ltb (sizesFor p l .capacity) (p .wr) || ltb 4096 (sizesFor p l .capacity)) (refusal 3 0)
+
+  abbrev row4 : Row A
+  row4 = on (not (eqb modules (sizesFor p l .columns * sizesFor p l .rows))) (refusal 4 0)
+
+  abbrev row5 : Row A
+  row5 = on (ltb room (sizesFor p l .work)) (refusal 5 0)
+
+  -- Where an answer has the number 0, none of the tests 1 to 5 gave it: what it was given for is legal, and the answer is the one
+  -- behind them. `number` is the number of an answer.
+  pub front-legal : (number : A → ℕ) (d : A)
+      → ((n place : ℕ) → number (refusal n place) ≡ n)
+      → number (firstOf (frontTests refusal p l modules room) d) ≡ 0
+      → Legal p l modules room × (number d ≡ 0)
+  unfolding firstOf sizeTests bufferTests frontTests
+  front-legal number d gives e =
+      let s : Sizes = sizesFor p l in
+      let c : ℕ = s .capacity in
+      let P : A → Type 0 = λ a. number a ≡ 0 in
+      let at1 = first-beyond P row1 (row2 ∷ row3 ∷ row4 ∷ row5 ∷ []) d (λ z. omega (arith, gives 1 0)) e in
+      let at2 = first-beyond P row2 (row3 ∷ row4 ∷ row5 ∷ []) d (λ z. omega (arith, gives 2 (listPlace (listVerdict p l)))) (at1 .1) in
+      let at3 = first-beyond P row3 (row4 ∷ row5 ∷ []) d (λ z. omega (arith, gives 3 0)) (at2 .1) in
+      let at4 = first-beyond P row4 (row5 ∷ []) d (λ z. omega (arith, gives 4 0)) (at3 .1) in
+      let at5 = first-beyond P row5 [] d (λ z. omega (arith, gives 5 0)) (at4 .1) in
+      let k : Legal p l modules room = record {
+        in-range = not-false (inRange p) (at1 .0);
+        sound = verdict-sound (listVerdict p l) (at2 .0);
+        least = ltb-false c (p .wr) (or-left (ltb c (p .wr)) (ltb 4096 c) (at3 .0));
+        most = ltb-false 4096 c (or-right (ltb c (p .wr)) (ltb 4096 c) (at3 .0));
+        whole = eqb-true modules (s .columns * s .rows) (not-false (eqb modules (s .columns * s .rows)) (at4 .0));
+        enough = ltb-false room (s .work) (at5 .0);
+      } in
+      (k, at5 .1)
+
+  -- The tests 1 to 5 refuse no legal input, whatever follows them.
+  pub front-passed : (d : A) → Legal p l modules room → firstOf (frontTests refusal p l modules room) d ≡ d
+  unfolding firstOf sizeTests bufferTests frontTests
+  front-passed d k =
+      let s : Sizes = sizesFor p l in
+      let c : ℕ = s .capacity in
+      let few : ltb c (p .wr) ≡ false = le-ltb c (p .wr) (k .least) in
+      let many : ltb 4096 c ≡ false = le-ltb 4096 c (k .most) in
+      let whole : eqb modules (s .columns * s .rows) ≡ true = eq-eqb modules (s .columns * s .rows) (k .whole) in
+      rw (k .in-range, sound-verdict (listVerdict p l) (k .sound), few, many, whole, le-ltb room (s .work) (k .enough))
+
+  -- what every refusal of the tests 1 to 5 has, and the answer behind them, the whole table's answer has
+  pub front-keeps : (Q : A → Type 0) (d : A)
+      → ((n place : ℕ) → 1 ≤ n → n ≤ 5 → (n ≡ 2) ⊎ (place ≡ 0) → Q (refusal n place))
+      → Q d
+      → Q (firstOf (frontTests refusal p l modules room) d)
+  unfolding sizeTests bufferTests frontTests
+  front-keeps Q d each behind =
+      first-keeps Q row1 (row2 ∷ row3 ∷ row4 ∷ row5 ∷ []) d (λ t. each 1 0 (omega arith) (omega arith) (inr refl))
+      (first-keeps Q row2 (row3 ∷ row4 ∷ row5 ∷ []) d (λ t. each 2 (listPlace (listVerdict p l)) (omega arith) (omega arith) (inl refl))
+      (first-keeps Q row3 (row4 ∷ row5 ∷ []) d (λ t. each 3 0 (omega arith) (omega arith) (inr refl))
+      (first-keeps Q row4 (row5 ∷ []) d (λ t. each 4 0 (omega arith) (omega arith) (inr refl))
+      (only-row Q row5 d (λ t. each 5 0 (omega arith) (omega arith) (inr refl)) (λ t. behind)))))
 
 -- Legal input passes each of the tests 1 to 5.
 pub legal : (p : Params) (l : List ℕ) (modules room : ℕ) → isLegal p l modules room ≡ true → Legal p l modules room
 unfolding isLegal
 legal p l modules room e =
-    let d : Answer = answer 0 0 in
-    let passed : firstOf (frontTests answer p l modules room) d .number ≡ 0 = eqb-true (firstOf (frontTests answer p l modules room) d .number) 0 e in
-    front-legal answer (λ (a : Answer). a .number) p l modules room d (λ n place. refl) passed .0
-
--- The tests 1 to 5 refuse no legal input, whatever follows them.
-pub front-passed : {A : Type 0} (refusal : ℕ → ℕ → A) (p : Params) (l : List ℕ) (modules room : ℕ) (d : A)
-    → Legal p l modules room
-    → firstOf (frontTests refusal p l modules room) d ≡ d
-unfolding firstOf sizeTests bufferTests frontTests
-front-passed refusal p l modules room d k =
-    let s : Sizes = sizesFor p l in
-    let c : ℕ = s .capacity in
-    rw (k .in-range, sound-verdict (listVerdict p l) (k .sound), le-ltb c (p .wr) (k .least), le-ltb 4096 c (k .most), eq-eqb modules (s .columns * s .rows) (k .whole), le-ltb room (s .work) (k .enough))
+    let number : Answer → ℕ = λ a. a .number in
+    let passed : number (firstOf (frontTests answer p l modules room) (answer 0 0)) ≡ 0 = eqb-true (number (firstOf (frontTests answer p l modules room) (answer 0 0))) 0 e in
+    front-legal answer p l modules room number (answer 0 0) (λ n place. refl) passed .0
 
 -- What passes each of the tests 1 to 5 is legal.
 pub legal-is : (p : Params) (l : List ℕ) (modules room : ℕ) → Legal p l modules room → isLegal p l modules room ≡ true
 unfolding isLegal
 legal-is p l modules room k = ap (λ (a : Answer). eqb (a .number) 0) (front-passed answer p l modules room (answer 0 0) k)
-
--- what every refusal of the tests 1 to 5 has, and the answer behind them, the whole table's answer has
-pub front-keeps : {A : Type 0} (Q : A → Type 0) (refusal : ℕ → ℕ → A) (p : Params) (l : List ℕ) (modules room : ℕ) (d : A)
-    → ((n place : ℕ) → 1 ≤ n → n ≤ 5 → (n ≡ 2) ⊎ (place ≡ 0) → Q (refusal n place))
-    → Q d
-    → Q (firstOf (frontTests refusal p l modules room) d)
-unfolding sizeTests bufferTests frontTests
-front-keeps {A} Q refusal p l modules room d each behind =
-    let s : Sizes = sizesFor p l in
-    let c : ℕ = s .capacity in
-    let v : ListVerdict = listVerdict p l in
-    let row1 : Row A = on (not (inRange p)) (refusal 1 0) in
-    let row2 : Row A = on (eqb (listNumber v) 2) (refusal 2 (listPlace v)) in
-    let row3 : Row A = on (ltb c (p .wr) || ltb 4096 c) (refusal 3 0) in
-    let row4 : Row A = on (not (eqb modules (s .columns * s .rows))) (refusal 4 0) in
-    let row5 : Row A = on (ltb room (s .work)) (refusal 5 0) in
-    first-keeps Q row1 (row2 ∷ row3 ∷ row4 ∷ row5 ∷ []) d (λ t. each 1 0 (omega arith) (omega arith) (inr refl))
-    (first-keeps Q row2 (row3 ∷ row4 ∷ row5 ∷ []) d (λ t. each 2 (listPlace v) (omega arith) (omega arith) (inl refl))
-    (first-keeps Q row3 (row4 ∷ row5 ∷ []) d (λ t. each 3 0 (omega arith) (omega arith) (inr refl))
-    (first-keeps Q row4 (row5 ∷ []) d (λ t. each 4 0 (omega arith) (omega arith) (inr refl))
-    (first-keeps Q row5 [] d (λ t. each 5 0 (omega arith) (omega arith) (inr refl)) (subst⁻¹ Q (first-none d) behind)))))

@@ -12,9 +12,9 @@ use Rattle.symbology.specs.declared.Near.{Near}
 use Rattle.symbology.specs.declared.Near.the-variants.{Apart, Core}
 use Rattle.symbology.specs.Ranges.{sumFrom}
 use Rattle.symbology.specs.Patterns.{nearCore}
-use Rattle.laws.proofs.Ranges.{and-left, and-right}
+use Rattle.symbology.proofs.Ranges.{and-left, and-right}
+use Rattle.symbology.proofs.Sides.{spaced}
 use Rattle.laws.proofs.Sums.{sum-ext, sum-split, sum-zero, sum-from}
-use Rattle.laws.proofs.Sides.{spaced}
 
 -- ---- windows
 

@@ -1,7 +1,7 @@
--- What is proved of the definitions where they stand: laws of their tools, Table 1, the table of a read, document 01's points,
--- worked examples.
+-- What is proved of the definitions where they stand: by computed tests, Tables 1 and 2, document 01's points and worked examples.
 pub mod Ranges
 pub mod Parameters
+pub mod Sides
 pub mod Published
 pub mod Points
 pub mod Examples

@@ -6,7 +6,7 @@ use native.Mathlib.Nat.{mul-le-mul}
 use lib.ListN.{length}
 use Rattle.symbology.specs.Sides.{coresOf, innerPatterns}
 use Rattle.tables.specs.declared.CoreRow.{CoreRow}
-use Rattle.tables.proofs.Cores.{core-count}
+use Rattle.symbology.proofs.Sides.{cores-least, cores-most}
 use borrow.Author.Needs.{needs}
 use Rattle.lister.proofs.inner_patterns.Statement.{statement}
 use Rattle.lister.proofs.inner_patterns.Tie as tie
@@ -23,7 +23,9 @@ cores-are c = c .wide .ensures ∙ ap (λ (r : CoreRow). r .len) (c .before .cor
 
 few : (c : tie.After-wide) → (2 ≤ c .wide .result) × (c .wide .result ≤ 9)
 few c =
-    let n = core-count (c .before .before .args .version) (c .before .before .pre .0) (c .before .before .pre .1) in
+    let s = c .before .before in
+    let least = cores-least (s .args .version) (s .pre .0) (s .pre .1) in
+    let most = cores-most (s .args .version) (s .pre .0) (s .pre .1) in
     (omega (arith, cores-are c), omega (arith, cores-are c))
 
 mul-result : tie.Need-mul-result

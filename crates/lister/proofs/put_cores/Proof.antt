@@ -6,7 +6,8 @@ use borrow.Author.Needs.{needs}
 use lib.ListN.{length, getD, drop, drop-of-length-le}
 use Rattle.symbology.specs.Sides.{coresOf}
 use Rattle.tables.specs.declared.CoreRow.{CoreRow}
-use Rattle.tables.proofs.Cores.{core-count, core-at, core-most}
+use Rattle.symbology.proofs.Sides.{cores-least, cores-most, core-most}
+use Rattle.tables.proofs.Cores.{core-at}
 use Rattle.lister.specs.Listing.{coresAfter}
 use Rattle.lister.proofs.Text.{Left, left-all, left-none, cores-next, text-kept}
 use Rattle.lister.proofs.Lengths.{cores-length}
@@ -33,14 +34,16 @@ loop-holds : tie.Need-loop-holds Inv-loop μ-loop
 loop-holds c =
     let s = c .before .before .before in
     let v = s .args .version in
-    let n = core-count v (s .pre .1) (s .pre .2) in
+    let least = cores-least v (s .pre .1) (s .pre .2) in
+    let most = cores-most v (s .pre .1) (s .pre .2) in
     (omega arith, omega arith, left-all (coresAfter (drop 1 (coresOf v))) (s .args .at) (s .args .out .now))
 
 element-copy-out-wide : tie.Need-element-copy-out-wide Inv-loop μ-loop
 element-copy-out-wide c =
     let s = c .before .before .before .before .before in
     let v = s .args .version in
-    let n = core-count v (s .pre .1) (s .pre .2) in
+    let least = cores-least v (s .pre .1) (s .pre .2) in
+    let most = cores-most v (s .pre .1) (s .pre .2) in
     omega (arith, cores-are (c .before .before))
 
 wide-requires-2 : tie.Need-wide-requires-2 Inv-loop μ-loop

@@ -1,7 +1,7 @@
 -- `lister::put_cores_line` meets its contract. Assumes nothing.
 use native.Mathlib.Omega.{arith}
 use Rattle.symbology.specs.Sides.{coresOf}
-use Rattle.tables.proofs.Cores.{core-count, core-first}
+use Rattle.symbology.proofs.Sides.{cores-least, cores-most, core-first}
 use Rattle.lister.proofs.Text.{joined, same-text}
 use Rattle.lister.proofs.Lengths.{cores-length}
 use Rattle.lister.proofs.Listing.{cores-line}
@@ -27,7 +27,8 @@ returns : tie.Need-returns
 returns c =
     let s = c .before .before .before .before .before .before .before .before .before .before .before .before .before in
     let v = s .args .version in
-    let n = core-count v (s .pre .1) (s .pre .2) in
+    let least = cores-least v (s .pre .1) (s .pre .2) in
+    let most = cores-most v (s .pre .1) (s .pre .2) in
     same-text (cores-line (coresOf v) (omega arith) (core-first v (s .pre .1) (s .pre .2))) (joined (joined (c .before .before .before .before .before .before .before .before .before .before .put .ensures) (c .before .before .before .before .before .before .put-cores .ensures)) (c .before .before .put2 .ensures))
 
 pub put-cores-line-spec : {M : Type 1} → statement M
