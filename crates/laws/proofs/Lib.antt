@@ -2,6 +2,7 @@
 
 -- tools
 pub mod Ranges
+pub mod Search
 pub mod Sums
 pub mod Bits
 pub mod Counting

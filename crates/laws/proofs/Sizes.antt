@@ -2,15 +2,18 @@
 -- Assumes nothing.
 use Prim.Native.Nat.{ℕ, _+_, _-_, _*_, _≤_, _<_}
 use mathlib.Core.Path.{_≡_, sym, ap, _∙_}
+use mathlib.Core.Bool.{true}
 use mathlib.Core.List.{List}
 use native.Mathlib.Nat.{mul-comm, mul-add, div-mul-le-self}
 use native.Mathlib.Omega.{arith}
 use lib.ListN.{length}
 use Rattle.symbology.specs.declared.Params.{Params}
 use Rattle.symbology.specs.declared.Sizes.{Sizes}
+use Rattle.symbology.specs.declared.ListVerdict.the-variants.{Sound}
 use Rattle.symbology.specs.Ranges.{sumFrom}
+use Rattle.symbology.specs.Parameters.{inRange}
 use Rattle.symbology.specs.Sides.{columns, rows}
-use Rattle.symbology.specs.Reserved.{entries}
+use Rattle.symbology.specs.Reserved.{entries, listVerdict}
 use Rattle.symbology.specs.Capacity.{bitsPerModule, dataModules, asBits, capacity, blockRows, sizesOf}
 use Rattle.symbology.specs.Placement.{columnData, sampled}
 use Rattle.symbology.specs.Tests.{sizesFor}
@@ -22,15 +25,22 @@ use Rattle.laws.proofs.Placement.{length-sampled}
 use Rattle.laws.proofs.DataModules.{data-count}
 use Rattle.laws.proofs.Spare.{enough-columns}
 
--- The data modules hold the C bits of the capacity.
+-- The data modules hold the C bits of the capacity, for parameters and a list that pass the tests 1 and 2.
+pub data-bits : (p : Params) (l : List ℕ)
+    → inRange p ≡ true
+    → listVerdict p l ≡ Sound
+    → bitsPerModule (p .colours) * sumFrom 0 (columns p) (columnData p l (rows p)) ≡ sizesFor p l .capacity
+unfolding asBits capacity sizesOf
+data-bits p l range sound =
+    let m : ℕ = bitsPerModule (p .colours) in
+    let d : ℕ = dataModules (p .kind) (p .horizontal) (p .vertical) (entries l) .0 in
+    ap (λ (x : ℕ). m * x) (data-count p l range sound) ∙ mul-comm m d
+
+-- The same of legal input.
 pub capacity-is : (p : Params) (l : List ℕ) (modules room : ℕ)
     → Legal p l modules room
     → bitsPerModule (p .colours) * sumFrom 0 (columns p) (columnData p l (rows p)) ≡ sizesFor p l .capacity
-unfolding asBits capacity sizesOf
-capacity-is p l modules room k =
-    let m : ℕ = bitsPerModule (p .colours) in
-    let d : ℕ = dataModules (p .kind) (p .horizontal) (p .vertical) (entries l) .0 in
-    ap (λ (x : ℕ). m * x) (data-count p l (k .in-range) (k .sound)) ∙ mul-comm m d
+capacity-is p l modules room k = data-bits p l (k .in-range) (k .sound)
 
 -- every matrix gives C bits
 pub sampled-whole : (p : Params) (l matrix : List ℕ) (modules room : ℕ)

@@ -10,7 +10,7 @@ ghost use lib.ListN.{length, drop};
 ghost use lib.Seq.{sets};
 ghost use Rattle.lister.specs.Decimal.{decimal};
 ghost use Rattle.lister.specs.Listing.{TextAt, numberLine, coresAfter, coresLine, sideText, listing};
-ghost use Rattle.symbology.specs.Sides.{coresOf, innerPatterns};
+ghost use Rattle.symbology.specs.Sides.{coresOf};
 
 // ---- text. Each function stores from `at` on, as far as the buffer reaches, and answers the place
 // behind the text. A buffer that is too short holds the front of it.
@@ -98,15 +98,6 @@ fn put_cores_line(out: &mut [u8], at: usize, version: usize) -> usize
     put(out, next, 10)
 }
 
-fn inner_patterns(version: usize) -> usize
-    requires { ⌜ (1 ≤ version) × (version ≤ 32) ⌝ }
-    ensures { λ r. ⌜ (r ≡ innerPatterns version version) × (r < 1000) ⌝ }
-{
-    let row = tables::core_row(version);
-    let n = wide(row.len);
-    n * n - 4
-}
-
 fn put_text(out: &mut [u8], text: &[u8]) -> usize
     requires { ⌜ length (now text) < 65536 ⌝ }
     ensures { λ r. ⌜ TextAt (now (text .entry)) 0 (now (out .entry)) (now (out .exit)) r ⌝ }
@@ -132,7 +123,7 @@ pub fn side_text(version: usize, out: &mut [u8]) -> usize
     }
     let second = put_number_line(out, 0, 17 + 4 * version);
     let third = put_cores_line(out, second, version);
-    put_number_line(out, third, inner_patterns(version))
+    put_number_line(out, third, tables::inner_patterns(version, version))
 }
 
 // What the side lister prints for an input, whatever it is, and its length.

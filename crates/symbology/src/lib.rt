@@ -82,6 +82,18 @@ pub struct Answer {
     pub place: usize,
 }
 
+// The answer of `sizes`: document 01's number and place, and what a caller needs to know of a symbol
+// before it is written or read: columns, rows, C, Pn and the bytes of the work buffer.
+pub struct SizesAnswer {
+    pub number: u32,
+    pub place: usize,
+    pub columns: usize,
+    pub rows: usize,
+    pub capacity: usize,
+    pub net: usize,
+    pub work: usize,
+}
+
 // The answer of a read: document 01's number and place, the message's length, the repairs and the
 // number of checks unmet in the received word.
 pub struct ReadAnswer {

@@ -1,5 +1,6 @@
 // Tables 1 and 2 of document 000 as constants, one accessor each: every function that names a table
-// is checked against all its entries, so others call the accessor.
+// is checked against all its entries, so others call the accessor. A table lies on the stack while
+// its accessor runs, so a loop keeps a row and does not ask for it again.
 //
 // The functions serve the crates above this one and ask for what those have tested.
 use symbology::Bits;
@@ -7,7 +8,7 @@ use symbology::Modules;
 ghost use Prim.Native.Nat.{_≤_, _<_};
 ghost use mathlib.Core.Path.{_≡_};
 ghost use Rattle.tables.specs.Rows.{coreRow, publishedCounts, formulaCounts};
-ghost use Rattle.symbology.specs.Sides.{coresOf};
+ghost use Rattle.symbology.specs.Sides.{sideSize, coresOf, innerPatterns};
 
 // A row of Table 2: the core coordinates of one side-version, `len` of them, then zeros.
 pub struct CoreRow {
@@ -152,6 +153,30 @@ pub fn core_row(version: usize) -> CoreRow
     ensures { λ r. ⌜ r ≡ coreRow (coresOf version) ⌝ }
 {
     TABLE_2[version - 1]
+}
+
+fn wide(b: u8) -> usize
+    ensures { λ r. ⌜ r ≡ b ⌝ }
+{
+    b as usize
+}
+
+// The modules along a side of a side-version.
+pub fn side_size(version: usize) -> usize
+    requires { ⌜ version ≤ 32 ⌝ }
+    ensures { λ r. ⌜ (r ≡ sideSize version) × (r ≤ 145) ⌝ }
+{
+    17 + 4 * version
+}
+
+// The inner patterns of a symbol, those besides the four corner ones: at most 77.
+pub fn inner_patterns(horizontal: usize, vertical: usize) -> usize
+    requires { ⌜ (1 ≤ horizontal) × (horizontal ≤ 32) × (1 ≤ vertical) × (vertical ≤ 32) ⌝ }
+    ensures { λ r. ⌜ (r ≡ innerPatterns horizontal vertical) × (r ≤ 77) ⌝ }
+{
+    let across = core_row(horizontal);
+    let down = core_row(vertical);
+    wide(across.len) * wide(down.len) - 4
 }
 
 // Table 1 as published. Each row has the data modules of the square symbols of one side-version,

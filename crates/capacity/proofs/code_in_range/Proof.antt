@@ -1,0 +1,63 @@
+-- `capacity::code_in_range` meets its contract. Assumes nothing.
+use mathlib.Core.Path.{_≡_}
+use mathlib.Core.Bool.{true, and-true}
+use borrow.Author.Tests.{lt-ltb, le-ltb}
+use Rattle.symbology.specs.Ranges.{within, allHold}
+use Rattle.symbology.specs.Parameters.{rangeTests}
+use Rattle.capacity.proofs.Groups.{one-fails, refused, passed, codeTests}
+use borrow.Author.Needs.{needs}
+use Rattle.capacity.proofs.code_in_range.Statement.{statement}
+use Rattle.capacity.proofs.code_in_range.Tie as tie
+
+is-within-requires : tie.Need-is-within-requires
+is-within-requires c κs = search needs
+
+returns : tie.Need-returns
+unfolding rangeTests
+returns c = one-fails (codeTests (c .before .before .args .p)) 0 (refused (c .before .is-within .ensures) (c .if1 .taken))
+
+is-within-requires-2 : tie.Need-is-within-requires-2
+is-within-requires-2 c κs = search needs
+
+returns-2 : tie.Need-returns-2
+unfolding rangeTests
+returns-2 c = one-fails (codeTests (c .before .before .before .before .args .p)) 1 (refused (c .before .is-within2 .ensures) (c .if2 .taken))
+
+returns-3 : tie.Need-returns-3
+unfolding rangeTests
+returns-3 c =
+    let p = c .before .before .before .before .before .before .args .p in
+    one-fails (codeTests p) 2 (le-ltb (p .wc) (p .wr) (c .if3 .taken))
+
+is-within-requires-3 : tie.Need-is-within-requires-3
+is-within-requires-3 c κs = search needs
+
+returns-4 : tie.Need-returns-4
+unfolding rangeTests
+returns-4 c = one-fails (codeTests (c .before .before .before .before .before .before .before .before .args .p)) 3 (refused (c .before .is-within3 .ensures) (c .if4 .taken))
+
+is-within-requires-4 : tie.Need-is-within-requires-4
+is-within-requires-4 c κs = search needs
+
+returns-5 : tie.Need-returns-5
+unfolding rangeTests allHold
+returns-5 c =
+    let p = c .before .before .before .before .before .before .before .before .before .args .p in
+    let wc-in : within 3 8 (p .wc) ≡ true = passed (c .before .before .before .before .before .before .before .before .is-within .ensures) (c .before .before .before .before .before .before .before .if1 .left) in
+    let wr-in : within 4 9 (p .wr) ≡ true = passed (c .before .before .before .before .before .before .is-within2 .ensures) (c .before .before .before .before .before .if2 .left) in
+    let mask-in : within 0 7 (p .mask) ≡ true = passed (c .before .before .is-within3 .ensures) (c .before .if4 .left) in
+    rw (wc-in, wr-in, lt-ltb (p .wc) (p .wr) (c .before .before .before .if3 .left), mask-in, and-true) (c .is-within4 .ensures)
+
+pub code-in-range-spec : {M : Type 1} → statement M
+code-in-range-spec =
+    tie.close
+    (tie.spec
+    is-within-requires
+    returns
+    is-within-requires-2
+    returns-2
+    returns-3
+    is-within-requires-3
+    returns-4
+    is-within-requires-4
+    returns-5)

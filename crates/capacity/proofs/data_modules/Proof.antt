@@ -1,0 +1,92 @@
+-- `capacity::data_modules` meets its contract. Assumes nothing.
+use Prim.Native.Nat.{ℕ, _-_, _*_, _≤_}
+use mathlib.Core.Path.{_∙_, ap, ap₂}
+use native.Mathlib.Omega.{arith}
+use Rattle.symbology.specs.Sides.{sideSize, innerPatterns}
+use Rattle.laws.proofs.Parameters.{InRange, ranges}
+use Rattle.capacity.proofs.Bounds.{area-most}
+use Rattle.capacity.proofs.Counts.{modules-are}
+use borrow.Author.Needs.{needs}
+use Rattle.capacity.proofs.data_modules.Statement.{statement}
+use Rattle.capacity.proofs.data_modules.Tie as tie
+
+-- each parameter is in its range
+known : (c : tie.Start) → InRange (c .args .p)
+known c = ranges (c .args .p) (c .pre)
+
+wide-requires : tie.Need-wide-requires
+wide-requires c κs = search needs
+
+wide-requires-2 : tie.Need-wide-requires-2
+wide-requires-2 c κs = search needs
+
+side-size-requires : tie.Need-side-size-requires
+side-size-requires c κs = omega (arith, known (c .before .before), c .before .wide .ensures)
+
+side-size-requires-2 : tie.Need-side-size-requires-2
+side-size-requires-2 c κs = omega (arith, known (c .before .before .before), c .before .wide2 .ensures)
+
+-- a symbol has few modules
+all-most : (c : tie.After-side-size2) → c .before .side-size .result * c .side-size2 .result ≤ 21025
+all-most c = area-most (c .before .side-size .result) (c .side-size2 .result) (c .before .side-size .ensures .1) (c .side-size2 .ensures .1)
+
+mul-all : tie.Need-mul-all
+mul-all c = omega (arith, all-most c)
+
+inner-patterns-requires : tie.Need-inner-patterns-requires
+inner-patterns-requires c κs = omega (arith, known (c .before .before .before .before), c .before .before .before .wide .ensures, c .before .before .wide2 .ensures)
+
+mul-less : tie.Need-mul-less
+mul-less c = search needs
+
+corner-modules-requires : tie.Need-corner-modules-requires
+corner-modules-requires c κs = search needs
+
+add-less : tie.Need-add-less
+add-less c = search needs
+
+less-requires : tie.Need-less-requires
+less-requires c κs = search needs
+
+less-requires-2 : tie.Need-less-requires-2
+less-requires-2 c κs = search needs
+
+cast-t11 : tie.Need-cast-t11
+cast-t11 c = omega (arith, all-most (c .before .before .before .before))
+
+returns : tie.Need-returns
+returns c =
+    let args = c .before .before .before .before .before .before .before .before .args in
+    let h-is = c .before .before .before .before .before .before .before .wide .ensures in
+    let v-is = c .before .before .before .before .before .before .wide2 .ensures in
+    let across = c .before .before .before .before .before .side-size in
+    let down = c .before .before .before .before .side-size2 in
+    let inner = c .before .before .before .inner-patterns in
+    let corner = c .before .before .corner-modules in (
+      modules-are (args .p .kind) (args .p .horizontal) (args .p .vertical) (args .listed)
+          (across .result) (down .result) (inner .result) (corner .result) (c .less2 .result)
+          (across .ensures .0 ∙ ap sideSize h-is)
+          (down .ensures .0 ∙ ap sideSize v-is)
+          (inner .ensures .0 ∙ ap₂ innerPatterns h-is v-is)
+          (corner .ensures .0)
+          (c .less2 .ensures ∙ ap (λ (n : ℕ). n - args .listed) (c .before .less .ensures)),
+      omega (arith, all-most (c .before .before .before .before)),
+    )
+
+pub data-modules-spec : {M : Type 1} → statement M
+data-modules-spec =
+    tie.close
+    (tie.spec
+    wide-requires
+    wide-requires-2
+    side-size-requires
+    side-size-requires-2
+    mul-all
+    inner-patterns-requires
+    mul-less
+    corner-modules-requires
+    add-less
+    less-requires
+    less-requires-2
+    cast-t11
+    returns)

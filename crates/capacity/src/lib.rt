@@ -1,0 +1,278 @@
+// What follows from the parameters and the reserved list before any matrix is looked at: the ranges
+// of the parameters, the number of data modules, the capacity, the sizes of the code, and the tests
+// 1 to 5 of document 01.
+//
+// `sizes` is for callers; it and the two functions of tests answer every input. The others serve
+// the crates above and ask for parameters in their ranges.
+use symbology::Answer;
+use symbology::Bits;
+use symbology::ListVerdict;
+use symbology::Modules;
+use symbology::Params;
+use symbology::Sizes;
+use symbology::SizesAnswer;
+ghost use Prim.Native.Nat.{_+_, _*_, _-_, _≤_, _<_};
+ghost use mathlib.Core.Path.{_≡_};
+ghost use mathlib.Core.Bool.{true, cond, _||_};
+ghost use lib.Dec.{eqb};
+ghost use lib.ListN.{take, drop};
+ghost use Rattle.symbology.specs.Ranges.{within, allHold};
+ghost use Rattle.symbology.specs.Parameters.{rangeTests, inRange};
+ghost use Rattle.symbology.specs.Capacity.{bitsPerModule, dataModules, asBits, capacity, sizesOf};
+ghost use Rattle.symbology.specs.Tests.{firstOf, sizeTests, frontTests};
+ghost use Rattle.symbology.specs.Sizes.{sizesAnswer};
+ghost use Rattle.symbology.specs.Write.{answer};
+
+// ---- test 1
+
+fn is_within(low: u32, high: u32, n: u32) -> bool
+    ensures { λ r. ⌜ r ≡ within low high n ⌝ }
+{
+    if n < low {
+        return false;
+    }
+    n <= high
+}
+
+fn is_four_or_eight(n: u32) -> bool
+    ensures { λ r. ⌜ r ≡ (eqb n 4 || eqb n 8) ⌝ }
+{
+    if n == 4 {
+        return true;
+    }
+    n == 8
+}
+
+// The ranges are tested in three groups: kind and side-versions,
+fn sides_in_range(p: Params) -> bool
+    ensures { λ r. ⌜ r ≡ allHold (take 3 (rangeTests p)) ⌝ }
+{
+    if !is_within(0, 1, p.kind) {
+        return false;
+    }
+    if !is_within(1, 32, p.horizontal) {
+        return false;
+    }
+    is_within(1, 32, p.vertical)
+}
+
+// the colours,
+fn colours_in_range(p: Params) -> bool
+    ensures { λ r. ⌜ r ≡ allHold (take 7 (drop 3 (rangeTests p))) ⌝ }
+{
+    if !is_four_or_eight(p.colours) {
+        return false;
+    }
+    if p.colours <= p.black {
+        return false;
+    }
+    if p.colours <= p.cyan {
+        return false;
+    }
+    if p.colours <= p.yellow {
+        return false;
+    }
+    if p.black == p.cyan {
+        return false;
+    }
+    if p.black == p.yellow {
+        return false;
+    }
+    p.cyan != p.yellow
+}
+
+// and code, mask and turn.
+fn code_in_range(p: Params) -> bool
+    ensures { λ r. ⌜ r ≡ allHold (drop 10 (rangeTests p)) ⌝ }
+{
+    if !is_within(3, 8, p.wc) {
+        return false;
+    }
+    if !is_within(4, 9, p.wr) {
+        return false;
+    }
+    if p.wr <= p.wc {
+        return false;
+    }
+    if !is_within(0, 7, p.mask) {
+        return false;
+    }
+    is_within(0, 1, p.turn)
+}
+
+// Test 1: every parameter is in its range.
+pub fn in_range(p: Params) -> bool
+    ensures { λ r. ⌜ r ≡ inRange p ⌝ }
+{
+    if !sides_in_range(p) {
+        return false;
+    }
+    if !colours_in_range(p) {
+        return false;
+    }
+    code_in_range(p)
+}
+
+// ---- sizes
+
+fn wide(n: u32) -> usize
+    ensures { λ r. ⌜ r ≡ n ⌝ }
+{
+    n as usize
+}
+
+fn less(a: usize, b: usize) -> usize
+    ensures { λ r. ⌜ r ≡ a - b ⌝ }
+{
+    if a < b {
+        return 0;
+    }
+    a - b
+}
+
+fn corner_modules(kind: u32) -> usize
+    ensures { λ r. ⌜ (r ≡ cond (eqb kind 0) 68 28) × (r ≤ 68) ⌝ }
+{
+    if kind == 0 {
+        return 68;
+    }
+    28
+}
+
+// D: the modules that are neither of a pattern nor of a list entry.
+pub fn data_modules(p: Params, listed: usize) -> Modules
+    requires { ⌜ inRange p ≡ true ⌝ }
+    ensures { λ r. ⌜ (r ≡ dataModules (p .kind) (p .horizontal) (p .vertical) listed) × (r .0 ≤ 21025) ⌝ }
+{
+    let h = wide(p.horizontal);
+    let v = wide(p.vertical);
+    let all = tables::side_size(h) * tables::side_size(v);
+    let inner = tables::inner_patterns(h, v);
+    let unpatterned = less(all, 7 * inner + corner_modules(p.kind));
+    Modules(less(unpatterned, listed) as u32)
+}
+
+// The bits that a module represents.
+pub fn bits_per_module(p: Params) -> u32
+    requires { ⌜ inRange p ≡ true ⌝ }
+    ensures { λ r. ⌜ (r ≡ bitsPerModule (p .colours)) × (1 ≤ r) × (r ≤ 3) ⌝ }
+{
+    if p.colours == 4 {
+        return 2;
+    }
+    3
+}
+
+// The one way from a count of modules to a count of bits.
+pub fn as_bits(m: Modules, depth: u32) -> Bits
+    requires { ⌜ (m .0 ≤ 21025) × (depth ≤ 3) ⌝ }
+    ensures { λ r. ⌜ r ≡ asBits m depth ⌝ }
+{
+    Bits(m.0 * depth)
+}
+
+// C, and what follows from it.
+pub fn sizes_of(p: Params, listed: usize) -> Sizes
+    requires { ⌜ inRange p ≡ true ⌝ }
+    ensures { λ r. ⌜ r ≡ sizesOf p listed ⌝ }
+{
+    let depth = bits_per_module(p);
+    let bits = as_bits(data_modules(p, listed), depth);
+    let c = wide(bits.0);
+    let wr = wide(p.wr);
+    let wc = wide(p.wc);
+    let block = c / wr;
+    let gross = block * wr;
+    let checks = block * wc;
+    Sizes {
+        columns: tables::side_size(wide(p.horizontal)),
+        rows: tables::side_size(wide(p.vertical)),
+        depth: wide(depth),
+        capacity: c,
+        wr: wr,
+        block: block,
+        gross: gross,
+        checks: checks,
+        net: block * (wr - wc),
+        work: checks * ((gross + 7) / 8) + 8 * c,
+    }
+}
+
+// ---- the tests 1 to 5
+
+fn refusal(number: u32, place: usize) -> Answer
+    ensures { λ r. ⌜ r ≡ answer number place ⌝ }
+{
+    Answer {
+        number: number,
+        place: place,
+    }
+}
+
+// 1 to 3, which need no buffer; 0 where none of them holds.
+pub fn size_tests(p: Params, list: &[u16]) -> Answer
+    ensures { λ r. ⌜ r ≡ firstOf (sizeTests answer p (now (list .entry))) (answer 0 0) ⌝ }
+{
+    if !in_range(p) {
+        return refusal(1, 0);
+    }
+    let verdict = reserved::judge_list(p, list);
+    if let ListVerdict::Fault(place) = verdict {
+        return refusal(2, place);
+    }
+    let c = sizes_of(p, list.len() / 3).capacity;
+    if c < wide(p.wr) {
+        return refusal(3, 0);
+    }
+    if 4096 < c {
+        return refusal(3, 0);
+    }
+    refusal(0, 0)
+}
+
+// 1 to 5, for a matrix and a work buffer of these lengths; 0 where none of them holds.
+pub fn front_tests(p: Params, list: &[u16], modules: usize, room: usize) -> Answer
+    ensures { λ r. ⌜ r ≡ firstOf (frontTests answer p (now (list .entry)) modules room) (answer 0 0) ⌝ }
+{
+    let first = size_tests(p, list);
+    if first.number != 0 {
+        return first;
+    }
+    let s = sizes_of(p, list.len() / 3);
+    if modules != s.columns * s.rows {
+        return refusal(4, 0);
+    }
+    if room < s.work {
+        return refusal(5, 0);
+    }
+    first
+}
+
+// What a caller needs to know before a write or a read: columns, rows, C, Pn and the bytes of the
+// work buffer, or the refusal 1, 2 or 3 with zeros.
+pub fn sizes(p: Params, list: &[u16]) -> SizesAnswer
+    ensures { λ r. ⌜ r ≡ sizesAnswer p (now (list .entry)) ⌝ }
+{
+    let first = size_tests(p, list);
+    if first.number != 0 {
+        return SizesAnswer {
+            number: first.number,
+            place: first.place,
+            columns: 0,
+            rows: 0,
+            capacity: 0,
+            net: 0,
+            work: 0,
+        };
+    }
+    let s = sizes_of(p, list.len() / 3);
+    SizesAnswer {
+        number: 0,
+        place: 0,
+        columns: s.columns,
+        rows: s.rows,
+        capacity: s.capacity,
+        net: s.net,
+        work: s.work,
+    }
+}

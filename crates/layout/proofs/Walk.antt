@@ -1,0 +1,144 @@
+-- The walk at one module: where it stands in the matrix and in the bits, what the module holds, and how many data modules stand
+-- before the one below it.
+-- Assumes nothing.
+use Prim.Native.Nat.{ℕ, suc, _+_, _*_, _≤_, _<_}
+use mathlib.Core.Path.{_≡_, refl, ap, _∙_}
+use mathlib.Core.Bool.{true, false}
+use mathlib.Core.List.{List, []}
+use native.Mathlib.Nat.{mul-le-mul, mul-suc}
+use native.Mathlib.Numerals.{add-one}
+use native.Mathlib.Omega.{arith}
+use lib.Arith.{digits-lt}
+use lib.Bits.{bitXor}
+use lib.ListN.{getD, take, drop}
+use Rattle.symbology.specs.declared.Params.{Params}
+use Rattle.symbology.specs.declared.Cell.{Cell}
+use Rattle.symbology.specs.declared.Cell.the-variants.{Data, Fixed}
+use Rattle.symbology.specs.Bits.{value, bits}
+use Rattle.symbology.specs.Sides.{columns, rows, coresOf}
+use Rattle.symbology.specs.Capacity.{bitsPerModule}
+use Rattle.symbology.specs.Placement.{isData, cellAt, rank, maskAt, dataModule, onCell, moduleAt, cellBits, bitsAt}
+use Rattle.laws.proofs.Parameters.{InRange, ranges, depth-some}
+use Rattle.laws.proofs.Ranks.{rank-next}
+use Rattle.laws.proofs.Placement.{bits-inside}
+use Rattle.laws.proofs.Sizes.{data-bits}
+use Rattle.tables.specs.declared.CoreRow.{CoreRow}
+use Rattle.tables.specs.Rows.{coreRow}
+use Rattle.patterns.specs.SideCores.{SideCores}
+use Rattle.layout.specs.Walk.{LegalSymbol, AtModule}
+
+-- a cell that holds data, and one that does not
+data-cell : {z : Cell} → z ≡ Data → isData z ≡ true
+unfolding isData
+data-cell e = rw e
+
+fixed-cell : {z : Cell} {v : ℕ} → z ≡ Fixed v → isData z ≡ false
+unfolding isData
+fixed-cell e = rw e
+
+module _ {p : Params} {l : List ℕ} {across down : CoreRow} {size modules c r k : ℕ} (w : AtModule p l across down size modules c r k) where
+  -- ---- places
+
+  -- a side has at most 145 modules
+  pub sides-most : (columns p ≤ 145) × (rows p ≤ 145)
+  sides-most = let i : InRange p = ranges p (w .symbol .in-range) in omega (arith, i .horizontal-most, i .vertical-most)
+
+  -- the module's index, with the columns as the code has them
+  pub index-inside : (n : ℕ) → n ≡ columns p → r < rows p → r * n + c < modules
+  index-inside n e h = rw (e, w .symbol .all-modules) (digits-lt h (w .column))
+
+  -- a data module's bits are some of those there are
+  pub bits-there : (depth : ℕ) → depth ≡ bitsPerModule (p .colours) → r < rows p → cellAt p l c r ≡ Data → depth * k + depth ≤ size
+  bits-there depth e h d =
+      rw (e, w .ranked, w .symbol .all-bits, ← (data-bits p l (w .symbol .in-range) (w .symbol .sound)))
+      (bits-inside p l c r (w .column) h (data-cell d))
+
+  -- so there are more bits than data modules before it
+  pub rank-small : r < rows p → cellAt p l c r ≡ Data → k < size
+  rank-small h d =
+      let depth : ℕ = bitsPerModule (p .colours) in
+      let some : 1 ≤ depth = depth-some (p .colours) (ranges p (w .symbol .in-range) .colours-are) .0 in
+      let grows : 1 * suc k ≤ depth * suc k = mul-le-mul {m₁ = suc k} {m₂ = suc k} some (omega arith) in
+      omega (arith, bits-there depth refl h d, mul-suc depth k)
+
+  -- ---- the data modules before the module below
+
+  pub fixed-next : {v : ℕ} → cellAt p l c r ≡ Fixed v → k ≡ rank p l c (r + 1)
+  fixed-next e = rw (add-one r, rank-next p l c r, fixed-cell e, w .ranked) (omega arith)
+
+  pub data-next : cellAt p l c r ≡ Data → k + 1 ≡ rank p l c (r + 1)
+  data-next e = rw (add-one r, rank-next p l c r, data-cell e, w .ranked)
+
+  -- ---- what the module holds
+
+  pub fixed-module : {v : ℕ} (bs : List ℕ) → cellAt p l c r ≡ Fixed v → v ≡ moduleAt p l bs c r
+  unfolding moduleAt onCell
+  fixed-module bs e = rw e
+
+  -- the bits at its rank, masked
+  pub data-module : (bs : List ℕ) (depth v mask : ℕ)
+      → depth ≡ bitsPerModule (p .colours)
+      → v ≡ value (take depth (drop (depth * k) bs))
+      → mask ≡ maskAt (p .mask) (p .colours) c r
+      → cellAt p l c r ≡ Data
+      → bitXor v mask ≡ moduleAt p l bs c r
+  unfolding moduleAt onCell dataModule
+  data-module bs depth v mask ed ev em e = rw (e, ev, em, ed, w .ranked)
+
+  -- ---- the bits of the module
+
+  pub fixed-bits : {v : ℕ} (matrix : List ℕ) → cellAt p l c r ≡ Fixed v → bitsAt p l matrix c r ≡ []
+  unfolding bitsAt cellBits
+  fixed-bits matrix e = rw e
+
+  -- the module, the mask undone
+  pub data-bits-are : (matrix : List ℕ) (depth n mask : ℕ)
+      → depth ≡ bitsPerModule (p .colours)
+      → n ≡ columns p
+      → mask ≡ maskAt (p .mask) (p .colours) c r
+      → cellAt p l c r ≡ Data
+      → bits depth (bitXor (getD matrix (r * n + c) 0) mask) ≡ bitsAt p l matrix c r
+  unfolding bitsAt cellBits
+  data-bits-are matrix depth n mask ed en em e = rw (e, ed, en, em)
+
+  -- ---- the walk at another row of the column, with other buffers of the same lengths
+
+  pub moved : (size' modules' r' k' : ℕ)
+      → size' ≡ size
+      → modules' ≡ modules
+      → r' ≤ rows p
+      → k' ≡ rank p l c r'
+      → AtModule p l across down size' modules' c r' k'
+  moved size' modules' r' k' es em h e =
+      let s = w .symbol in
+      record {
+        cells = w .cells;
+        symbol = record { in-range = s .in-range; sound = s .sound; all-bits = es ∙ s .all-bits; all-modules = em ∙ s .all-modules };
+        column = w .column;
+        row = h;
+        ranked = e;
+      }
+
+-- the walk at the first module of a column, with the rows of Table 2 that a call keeps and buffers of the right lengths
+pub at-column : {p : Params} {l : List ℕ} {size modules : ℕ} → LegalSymbol p l size modules
+    → (across down : CoreRow) (h v size' modules' c k : ℕ)
+    → (across ≡ coreRow (coresOf h)) × (h ≡ p .horizontal)
+    → (down ≡ coreRow (coresOf v)) × (v ≡ p .vertical)
+    → size' ≡ size
+    → modules' ≡ modules
+    → c < columns p
+    → k ≡ rank p l c 0
+    → AtModule p l across down size' modules' c 0 k
+at-column {p} s across down h v size' modules' c k ea ed es em inside e =
+    let cores : SideCores p across down = record {
+      in-range = s .in-range;
+      across-is = ea .0 ∙ ap (λ (n : ℕ). coreRow (coresOf n)) (ea .1);
+      down-is = ed .0 ∙ ap (λ (n : ℕ). coreRow (coresOf n)) (ed .1);
+    } in
+    record {
+      cells = record { cores = cores; sound = s .sound };
+      symbol = record { in-range = s .in-range; sound = s .sound; all-bits = es ∙ s .all-bits; all-modules = em ∙ s .all-modules };
+      column = inside;
+      row = omega arith;
+      ranked = e;
+    }

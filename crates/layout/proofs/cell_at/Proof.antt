@@ -1,0 +1,81 @@
+-- `layout::cell_at` meets its contract. Assumes nothing.
+use Prim.Native.Nat.{_+_}
+use mathlib.Core.Path.{_∙_, sym, ap}
+use native.Mathlib.Omega.{arith}
+use Rattle.symbology.specs.declared.Cell.the-variants.{Fixed}
+use Rattle.symbology.specs.Placement.{patternCell}
+use Rattle.layout.proofs.Cells.{entry-byte, listed-cell, unlisted-cell}
+use borrow.Author.Needs.{needs}
+use Rattle.layout.proofs.cell_at.Statement.{statement}
+use Rattle.layout.proofs.cell_at.Tie as tie
+
+add-first-entry : tie.Need-add-first-entry
+add-first-entry c = search needs
+
+add-first-entry-2 : tie.Need-add-first-entry-2
+add-first-entry-2 c = search needs
+
+first-entry-requires : tie.Need-first-entry-requires
+first-entry-requires c κs = omega arith
+
+mul-narrow : tie.Need-mul-narrow
+mul-narrow c = search needs
+
+add-narrow : tie.Need-add-narrow
+add-narrow c = search needs
+
+mul-narrow-2 : tie.Need-mul-narrow-2
+mul-narrow-2 c = search needs
+
+shared-slice-read-narrow : tie.Need-shared-slice-read-narrow
+shared-slice-read-narrow c = search needs
+
+narrow-requires : tie.Need-narrow-requires
+narrow-requires c κs =
+    let a = c .before .before .before .before .args in
+    let l = c .before .before .before .before .pre .0 in
+    entry-byte (a .p) (a .list .now) (l .cores .in-range) (l .sound) (c .before .before .first-entry .result) (c .before .if1 .taken)
+
+returns : tie.Need-returns
+returns c =
+    let a = c .before .before .before .before .before .args in
+    ap Fixed (c .narrow .ensures)
+    ∙ sym (listed-cell (a .p) (a .list .now) (a .c + 1) (a .r + 1) (c .before .before .before .first-entry .result) (c .before .before .before .first-entry .ensures .0) (c .before .before .if1 .taken))
+
+add-pattern-colour : tie.Need-add-pattern-colour
+add-pattern-colour c = search needs
+
+add-pattern-colour-2 : tie.Need-add-pattern-colour-2
+add-pattern-colour-2 c = search needs
+
+pattern-colour-requires : tie.Need-pattern-colour-requires
+pattern-colour-requires c κs = (c .before .before .before .pre .0 .cores, omega arith, omega arith)
+
+pattern-cell-requires : tie.Need-pattern-cell-requires
+pattern-cell-requires c κs = c .before .before .before .before .pre .0 .cores .in-range
+
+returns-2 : tie.Need-returns-2
+returns-2 c =
+    let a = c .before .before .before .before .before .args in
+    c .pattern-cell .ensures
+    ∙ ap (patternCell (a .p)) (c .before .pattern-colour .ensures)
+    ∙ sym (unlisted-cell (a .p) (a .list .now) (a .c + 1) (a .r + 1) (c .before .before .before .first-entry .result) (c .before .before .before .first-entry .ensures .0) (c .before .before .if1 .left))
+
+pub cell-at-spec : {M : Type 1} → statement M
+cell-at-spec =
+    tie.close
+    (tie.spec
+    add-first-entry
+    add-first-entry-2
+    first-entry-requires
+    mul-narrow
+    add-narrow
+    mul-narrow-2
+    shared-slice-read-narrow
+    narrow-requires
+    returns
+    add-pattern-colour
+    add-pattern-colour-2
+    pattern-colour-requires
+    pattern-cell-requires
+    returns-2)

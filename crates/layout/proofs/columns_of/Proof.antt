@@ -1,0 +1,18 @@
+-- `layout::columns_of` meets its contract. Assumes nothing.
+use native.Mathlib.Omega.{arith}
+use Rattle.laws.proofs.Parameters.{ranges}
+use borrow.Author.Needs.{needs}
+use Rattle.layout.proofs.columns_of.Statement.{statement}
+use Rattle.layout.proofs.columns_of.Tie as tie
+
+wide-requires : tie.Need-wide-requires
+wide-requires c κs = search needs
+
+side-size-requires : tie.Need-side-size-requires
+side-size-requires c κs = omega (arith, ranges (c .before .args .p) (c .before .pre) .horizontal-most, c .wide .ensures)
+
+returns : tie.Need-returns
+returns c = omega (arith, c .before .wide .ensures, c .side-size .ensures)
+
+pub columns-of-spec : {M : Type 1} → statement M
+columns-of-spec = tie.close (tie.spec wide-requires side-size-requires returns)

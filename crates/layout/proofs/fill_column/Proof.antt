@@ -1,0 +1,68 @@
+-- `layout::fill_column` meets its contract: the invariant is how far down the column the walk has come. Assumes nothing.
+use Prim.Native.Nat.{_-_, _≤_, _<_}
+use mathlib.Core.Path.{_≡_, _∙_, sym, refl}
+use native.Mathlib.Numerals.{add-one}
+use native.Mathlib.Omega.{arith}
+use Rattle.symbology.specs.Sides.{rows}
+use Rattle.symbology.specs.Placement.{rank}
+use Rattle.laws.proofs.Ranks.{rank-column}
+use Rattle.layout.specs.Walk.{FilledTo}
+use Rattle.layout.proofs.Walk.{moved}
+use Rattle.layout.proofs.Filled.{filled-next, filled-column}
+use Rattle.layout.proofs.fill_column.Statement.{statement}
+use Rattle.layout.proofs.fill_column.Tie as tie
+
+abbrev Inv-loop : tie.InvT-loop
+Inv-loop p list across down bits matrix₀ c k height next₀ r₀ matrix next r = (r ≤ rows p) × (next ≡ rank p list c r) × FilledTo p list bits matrix c r
+
+abbrev μ-loop : tie.MeasureT-loop
+μ-loop p list across down bits matrix₀ c k height next₀ r₀ matrix next r = height - r
+
+rows-of-requires : tie.Need-rows-of-requires Inv-loop μ-loop
+rows-of-requires c κs = c .before .before .before .pre .0 .symbol .in-range
+
+loop-holds : tie.Need-loop-holds Inv-loop μ-loop
+loop-holds c = (omega arith, c .before .before .before .before .pre .0 .ranked, c .before .before .before .before .pre .1)
+
+put-module-requires : tie.Need-put-module-requires Inv-loop μ-loop
+put-module-requires c κs =
+    let i = c .before .before .loop .inv in
+    let h : c .before .before .loop .r < rows (c .before .before .before .before .before .before .before .args .p) = omega (arith, c .before .before .before .rows-of .ensures .0) in
+    (moved (c .before .before .before .before .before .before .before .pre .0) _ _ (c .before .before .loop .r) (c .before .before .loop .next) refl (i .2 .whole ∙ sym (c .before .before .before .before .before .before .before .pre .1 .whole)) (i .0) (i .1), h)
+
+add-r : tie.Need-add-r Inv-loop μ-loop
+add-r c = omega arith
+
+loop-less : tie.Need-loop-less Inv-loop μ-loop
+loop-less c = omega arith
+
+loop-again : tie.Need-loop-again Inv-loop μ-loop
+loop-again c =
+    let i = c .before .before .before .before .before .loop .inv in
+    let h : c .before .before .before .before .before .loop .r < rows (c .before .before .before .before .before .before .before .before .before .before .args .p) = omega (arith, c .before .before .before .before .before .before .rows-of .ensures .0) in
+    (omega arith, c .before .before .put-module .ensures .0, rw (c .before .before .put-module .ensures .1) (filled-next (i .2) (c .before .before .before .before .before .before .before .before .before .before .pre .0 .column) h))
+
+same-length : tie.Need-same-length Inv-loop μ-loop
+same-length c = c .before .loop .inv .2 .whole ∙ sym (c .before .before .before .before .before .before .pre .1 .whole)
+
+returns : tie.Need-returns Inv-loop μ-loop
+returns c =
+    let a = c .before .before .before .before .before .before .args in
+    let i = c .before .loop .inv in
+    let e : c .before .loop .r ≡ rows (a .p) = omega (arith, i .0, c .before .before .rows-of .ensures .0) in
+    (i .1 ∙ rw (e, add-one (a .c)) (rank-column (a .p) (a .list .now) (a .c)), filled-column (rw e at (i .2)))
+
+pub fill-column-spec : {M : Type 1} → statement M
+fill-column-spec =
+    tie.close
+    (tie.spec
+    Inv-loop
+    μ-loop
+    rows-of-requires
+    loop-holds
+    put-module-requires
+    add-r
+    loop-less
+    loop-again
+    same-length
+    returns)

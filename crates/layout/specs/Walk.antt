@@ -1,0 +1,55 @@
+-- The walk through the modules, column by column from the left, each downwards: what it asks for, and how far it has come. Columns
+-- and rows count from 0.
+-- Assumes nothing.
+use Prim.Native.Nat.{ℕ, _*_, _/_, _%_, _≤_, _<_}
+use mathlib.Core.Path.{_≡_}
+use mathlib.Core.Bool.{true}
+use mathlib.Core.List.{List}
+use mathlib.Core.Logic.{_⊎_}
+use lib.ListN.{length, getD}
+use Rattle.symbology.specs.declared.Params.{Params}
+use Rattle.symbology.specs.declared.ListVerdict.the-variants.{Sound}
+use Rattle.symbology.specs.Ranges.{joinFrom}
+use Rattle.symbology.specs.Parameters.{inRange}
+use Rattle.symbology.specs.Sides.{columns, rows}
+use Rattle.symbology.specs.Reserved.{listVerdict}
+use Rattle.symbology.specs.Placement.{rank, moduleAt, bitsAt}
+use Rattle.symbology.specs.Tests.{sizesFor}
+use Rattle.tables.specs.declared.CoreRow.{CoreRow}
+use Rattle.patterns.specs.SideCores.{SideCores}
+
+-- parameters and list pass the tests 1 and 2, there are C bits, and the matrix has so many modules
+pub record LegalSymbol (p : Params) (l : List ℕ) (bits modules : ℕ) : Type 0 where
+  pub in-range : inRange p ≡ true
+  pub sound : listVerdict p l ≡ Sound
+  pub all-bits : bits ≡ sizesFor p l .capacity
+  pub all-modules : modules ≡ rows p * columns p
+
+-- the rows of Table 2 are kept, and the list is sound
+pub record LegalCells (p : Params) (l : List ℕ) (across down : CoreRow) : Type 0 where
+  pub cores : SideCores p across down
+  pub sound : listVerdict p l ≡ Sound
+
+-- the walk stands at the module (c, r) of a legal symbol, or below the last of column c, with k data modules before it
+pub record AtModule (p : Params) (l : List ℕ) (across down : CoreRow) (bits modules c r k : ℕ) : Type 0 where
+  pub cells : LegalCells p l across down
+  pub symbol : LegalSymbol p l bits modules
+  pub column : c < columns p
+  pub row : r ≤ rows p
+  pub ranked : k ≡ rank p l c r
+
+-- the module (x, y) comes before (c, r)
+abbrev pub Before : ℕ → ℕ → ℕ → ℕ → Type 0
+Before x y c r = (x < c) ⊎ ((x ≡ c) × (y < r))
+
+-- each module of the matrix before (c, r) is that of the matrix filled with the bits
+pub record FilledTo (p : Params) (l bs matrix : List ℕ) (c r : ℕ) : Type 0 where
+  pub whole : length matrix ≡ rows p * columns p
+  pub passed : (i : ℕ)
+      → i < rows p * columns p
+      → Before (i % columns p) (i / columns p) c r
+      → getD matrix i 0 ≡ moduleAt p l bs (i % columns p) (i / columns p)
+
+-- the bits of the first n rows of column c of a matrix
+abbrev pub columnBits : Params → List ℕ → List ℕ → ℕ → ℕ → List ℕ
+columnBits p l matrix c n = joinFrom 0 n (λ r. bitsAt p l matrix c r)

@@ -1,0 +1,2 @@
+-- Lemmas of the code: what makes an entry bad, and a list.
+pub mod Faults

@@ -1,0 +1,150 @@
+// The reserved list, lent by the caller: three numbers to an entry, column, row and colour index,
+// columns and rows counted from 1 and entries from 0.
+//
+// `judge_list` is test 2. Both functions look at the entries one after the other: judging n entries
+// costs n × n / 2 comparisons, half a million for the 1,024 that are allowed.
+use symbology::ListVerdict;
+use symbology::Params;
+use symbology::PatternColour;
+use tables::CoreRow;
+ghost use Prim.Native.Nat.{_+_, _*_, _≤_, _<_};
+ghost use mathlib.Core.Path.{_≡_};
+ghost use mathlib.Core.Bool.{true, not, _||_};
+ghost use lib.ListN.{length};
+ghost use Rattle.patterns.specs.SideCores.{SideCores};
+ghost use Rattle.symbology.specs.Parameters.{inRange};
+ghost use Rattle.symbology.specs.Patterns.{covered};
+ghost use Rattle.symbology.specs.Ranges.{within, lowest};
+ghost use Rattle.symbology.specs.Sides.{columns, rows};
+ghost use Rattle.symbology.specs.Reserved.{entryAt, firstEntry, badEntry, badAt, listVerdict};
+
+fn wide(n: u16) -> usize
+    ensures { λ r. ⌜ (r ≡ n) × (r < 65536) ⌝ }
+{
+    n as usize
+}
+
+fn stands_at(list: &[u16], k: usize, x: usize, y: usize) -> bool
+    requires { ⌜ 3 * k + 3 ≤ length (now list) ⌝ }
+    ensures { λ r. ⌜ r ≡ entryAt (now (list .entry)) x y k ⌝ }
+{
+    if wide(list[3 * k]) != x {
+        return false;
+    }
+    wide(list[3 * k + 1]) == y
+}
+
+// The first of the n first entries that stands at column x, row y, and n where none does.
+pub fn first_entry(list: &[u16], n: usize, x: usize, y: usize) -> usize
+    requires { ⌜ 3 * n ≤ length (now list) ⌝ }
+    ensures { λ r. ⌜ (r ≡ firstEntry (now (list .entry)) n x y) × (r ≤ n) ⌝ }
+{
+    let mut k = 0;
+    while k < n {
+        if stands_at(list, k, x, y) {
+            return k;
+        }
+        k += 1;
+    }
+    k
+}
+
+fn is_covered(colour: PatternColour) -> bool
+    ensures { λ r. ⌜ r ≡ covered colour ⌝ }
+{
+    match colour {
+        PatternColour::Outside => false,
+        PatternColour::Black => true,
+        PatternColour::Cyan => true,
+        PatternColour::Yellow => true,
+    }
+}
+
+fn is_outside(p: Params, x: usize, y: usize) -> bool
+    requires { ⌜ inRange p ≡ true ⌝ }
+    ensures { λ r. ⌜ r ≡ (not (within 1 (columns p) x) || not (within 1 (rows p) y)) ⌝ }
+{
+    if x < 1 {
+        return true;
+    }
+    if tables::side_size(p.horizontal as usize) < x {
+        return true;
+    }
+    if y < 1 {
+        return true;
+    }
+    tables::side_size(p.vertical as usize) < y
+}
+
+// An entry k with these numbers is outside the symbol, on a pattern, at the place of an earlier one,
+// or of a colour that the symbol does not have.
+fn is_bad(
+    p: Params,
+    list: &[u16],
+    across: CoreRow,
+    down: CoreRow,
+    k: usize,
+    x: usize,
+    y: usize,
+    colour: usize,
+) -> bool
+    requires { ⌜ SideCores p across down × (3 * k ≤ length (now list)) × (x < 65536) × (y < 65536) ⌝ }
+    ensures { λ r. ⌜ r ≡ badEntry p (now (list .entry)) k x y colour ⌝ }
+{
+    if is_outside(p, x, y) {
+        return true;
+    }
+    if is_covered(patterns::pattern_colour(p, across, down, x, y)) {
+        return true;
+    }
+    if first_entry(list, k, x, y) < k {
+        return true;
+    }
+    p.colours as usize <= colour
+}
+
+fn is_bad_entry(p: Params, list: &[u16], across: CoreRow, down: CoreRow, k: usize) -> bool
+    requires { ⌜ SideCores p across down × (3 * k + 3 ≤ length (now list)) ⌝ }
+    ensures { λ r. ⌜ r ≡ badAt p (now (list .entry)) k ⌝ }
+{
+    let x = wide(list[3 * k]);
+    let y = wide(list[3 * k + 1]);
+    let colour = wide(list[3 * k + 2]);
+    is_bad(p, list, across, down, k, x, y, colour)
+}
+
+// The first bad one of the n first entries, and n where none is bad.
+fn first_bad(p: Params, list: &[u16], n: usize) -> usize
+    requires { ⌜ (inRange p ≡ true) × (3 * n ≤ length (now list)) ⌝ }
+    ensures { λ r. ⌜ r ≡ lowest (badAt p (now (list .entry))) n 0 ⌝ }
+{
+    let across = tables::core_row(p.horizontal as usize);
+    let down = tables::core_row(p.vertical as usize);
+    let mut k = 0;
+    while k < n {
+        if is_bad_entry(p, list, across, down, k) {
+            return k;
+        }
+        k += 1;
+    }
+    k
+}
+
+// Test 2, for parameters that pass test 1.
+pub fn judge_list(p: Params, list: &[u16]) -> ListVerdict
+    requires { ⌜ inRange p ≡ true ⌝ }
+    ensures { λ r. ⌜ r ≡ listVerdict p (now (list .entry)) ⌝ }
+{
+    let n = list.len() / 3;
+    if list.len() % 3 != 0 {
+        return ListVerdict::Fault(n);
+    }
+    if 1024 < n {
+        return ListVerdict::Fault(1024);
+    }
+    let place = first_bad(p, list, n);
+    if place < n {
+        return ListVerdict::Fault(place);
+    }
+    ListVerdict::Sound
+}
