@@ -2,29 +2,30 @@
 -- before the one below it.
 -- Assumes nothing.
 use Prim.Native.Nat.{ℕ, suc, _+_, _*_, _≤_, _<_}
-use mathlib.Core.Path.{_≡_, refl, ap, _∙_}
+use mathlib.Core.Path.{_≡_, refl, _∙_}
 use mathlib.Core.Bool.{true, false}
 use mathlib.Core.List.{List, []}
 use native.Mathlib.Nat.{mul-le-mul, mul-suc}
 use native.Mathlib.Numerals.{add-one}
 use native.Mathlib.Omega.{arith}
-use lib.Arith.{digits-lt}
 use lib.Bits.{bitXor}
 use lib.ListN.{getD, take, drop}
 use Rattle.symbology.specs.declared.Params.{Params}
 use Rattle.symbology.specs.declared.Cell.{Cell}
 use Rattle.symbology.specs.declared.Cell.the-variants.{Data, Fixed}
+use Rattle.symbology.specs.declared.ListVerdict.the-variants.{Sound}
 use Rattle.symbology.specs.Bits.{value, bits}
-use Rattle.symbology.specs.Sides.{columns, rows, coresOf}
+use Rattle.symbology.specs.Parameters.{inRange}
+use Rattle.symbology.specs.Reserved.{listVerdict}
+use Rattle.symbology.specs.Sides.{columns, rows}
 use Rattle.symbology.specs.Capacity.{bitsPerModule}
 use Rattle.symbology.specs.Placement.{isData, cellAt, rank, maskAt, dataModule, onCell, moduleAt, cellBits, bitsAt}
 use Rattle.laws.proofs.Parameters.{InRange, ranges, depth-some}
 use Rattle.laws.proofs.Ranks.{rank-next}
 use Rattle.laws.proofs.Placement.{bits-inside}
 use Rattle.laws.proofs.Sizes.{data-bits}
-use Rattle.tables.specs.declared.CoreRow.{CoreRow}
-use Rattle.tables.specs.Rows.{coreRow}
-use Rattle.patterns.specs.SideCores.{SideCores}
+use Rattle.patterns.specs.declared.SideCores.{SideCores}
+use Rattle.patterns.specs.Cores.{coresFor}
 use Rattle.layout.specs.Walk.{LegalSymbol, AtModule}
 
 -- a cell that holds data, and one that does not
@@ -36,16 +37,23 @@ fixed-cell : {z : Cell} {v : ℕ} → z ≡ Fixed v → isData z ≡ false
 unfolding isData
 fixed-cell e = rw e
 
-module _ {p : Params} {l : List ℕ} {across down : CoreRow} {size modules c r k : ℕ} (w : AtModule p l across down size modules c r k) where
+module _ {p : Params} {l : List ℕ} {cores : SideCores} {size modules c r k : ℕ} (w : AtModule p l cores size modules c r k) where
   -- ---- places
 
+  -- the module is one of the symbol's
+  pub module-inside : r < rows p → (inRange p ≡ true) × (c < columns p) × (r < rows p)
+  module-inside h = (w .symbol .in-range, w .column, h)
+
   -- a side has at most 145 modules
-  pub sides-most : (columns p ≤ 145) × (rows p ≤ 145)
+  sides-most : (columns p ≤ 145) × (rows p ≤ 145)
   sides-most = let i : InRange p = ranges p (w .symbol .in-range) in omega (arith, i .horizontal-most, i .vertical-most)
 
-  -- the module's index, with the columns as the code has them
-  pub index-inside : (n : ℕ) → n ≡ columns p → r < rows p → r * n + c < modules
-  index-inside n e h = rw (e, w .symbol .all-modules) (digits-lt h (w .column))
+  -- what its cell and its mask ask for
+  pub cell-legal : r < rows p → (inRange p ≡ true) × (listVerdict p l ≡ Sound) × (cores ≡ coresFor p) × (c < 256) × (r < 256)
+  cell-legal h = (w .symbol .in-range, w .symbol .sound, w .kept, omega (arith, sides-most, w .column), omega (arith, sides-most))
+
+  pub mask-legal : r < rows p → (inRange p ≡ true) × (c < 256) × (r < 256)
+  mask-legal h = (w .symbol .in-range, omega (arith, sides-most, w .column), omega (arith, sides-most))
 
   -- a data module's bits are some of those there are
   pub bits-there : (depth : ℕ) → depth ≡ bitsPerModule (p .colours) → r < rows p → cellAt p l c r ≡ Data → depth * k + depth ≤ size
@@ -92,14 +100,14 @@ module _ {p : Params} {l : List ℕ} {across down : CoreRow} {size modules c r k
   fixed-bits matrix e = rw e
 
   -- the module, the mask undone
-  pub data-bits-are : (matrix : List ℕ) (depth n mask : ℕ)
+  pub data-bits-are : (matrix : List ℕ) (depth i mask : ℕ)
       → depth ≡ bitsPerModule (p .colours)
-      → n ≡ columns p
+      → i ≡ r * columns p + c
       → mask ≡ maskAt (p .mask) (p .colours) c r
       → cellAt p l c r ≡ Data
-      → bits depth (bitXor (getD matrix (r * n + c) 0) mask) ≡ bitsAt p l matrix c r
+      → bits depth (bitXor (getD matrix i 0) mask) ≡ bitsAt p l matrix c r
   unfolding bitsAt cellBits
-  data-bits-are matrix depth n mask ed en em e = rw (e, ed, en, em)
+  data-bits-are matrix depth i mask ed ei em e = rw (e, ed, ei, em)
 
   -- ---- the walk at another row of the column, with other buffers of the same lengths
 
@@ -108,36 +116,30 @@ module _ {p : Params} {l : List ℕ} {across down : CoreRow} {size modules c r k
       → modules' ≡ modules
       → r' ≤ rows p
       → k' ≡ rank p l c r'
-      → AtModule p l across down size' modules' c r' k'
+      → AtModule p l cores size' modules' c r' k'
   moved size' modules' r' k' es em h e =
       let s = w .symbol in
       record {
-        cells = w .cells;
         symbol = record { in-range = s .in-range; sound = s .sound; all-bits = es ∙ s .all-bits; all-modules = em ∙ s .all-modules };
+        kept = w .kept;
         column = w .column;
         row = h;
         ranked = e;
       }
 
--- the walk at the first module of a column, with the rows of Table 2 that a call keeps and buffers of the right lengths
+-- the walk at the first module of a column
 pub at-column : {p : Params} {l : List ℕ} {size modules : ℕ} → LegalSymbol p l size modules
-    → (across down : CoreRow) (h v size' modules' c k : ℕ)
-    → (across ≡ coreRow (coresOf h)) × (h ≡ p .horizontal)
-    → (down ≡ coreRow (coresOf v)) × (v ≡ p .vertical)
+    → (cores : SideCores) (size' modules' c k : ℕ)
+    → cores ≡ coresFor p
     → size' ≡ size
     → modules' ≡ modules
     → c < columns p
     → k ≡ rank p l c 0
-    → AtModule p l across down size' modules' c 0 k
-at-column {p} s across down h v size' modules' c k ea ed es em inside e =
-    let cores : SideCores p across down = record {
-      in-range = s .in-range;
-      across-is = ea .0 ∙ ap (λ (n : ℕ). coreRow (coresOf n)) (ea .1);
-      down-is = ed .0 ∙ ap (λ (n : ℕ). coreRow (coresOf n)) (ed .1);
-    } in
+    → AtModule p l cores size' modules' c 0 k
+at-column s cores size' modules' c k kept es em inside e =
     record {
-      cells = record { cores = cores; sound = s .sound };
       symbol = record { in-range = s .in-range; sound = s .sound; all-bits = es ∙ s .all-bits; all-modules = em ∙ s .all-modules };
+      kept = kept;
       column = inside;
       row = omega arith;
       ranked = e;

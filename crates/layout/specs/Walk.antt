@@ -15,8 +15,8 @@ use Rattle.symbology.specs.Sides.{columns, rows}
 use Rattle.symbology.specs.Reserved.{listVerdict}
 use Rattle.symbology.specs.Placement.{rank, moduleAt, bitsAt}
 use Rattle.symbology.specs.Tests.{sizesFor}
-use Rattle.tables.specs.declared.CoreRow.{CoreRow}
-use Rattle.patterns.specs.SideCores.{SideCores}
+use Rattle.patterns.specs.declared.SideCores.{SideCores}
+use Rattle.patterns.specs.Cores.{coresFor}
 
 -- parameters and list pass the tests 1 and 2, there are C bits, and the matrix has so many modules
 pub record LegalSymbol (p : Params) (l : List ℕ) (bits modules : ℕ) : Type 0 where
@@ -25,15 +25,11 @@ pub record LegalSymbol (p : Params) (l : List ℕ) (bits modules : ℕ) : Type 0
   pub all-bits : bits ≡ sizesFor p l .capacity
   pub all-modules : modules ≡ rows p * columns p
 
--- the rows of Table 2 are kept, and the list is sound
-pub record LegalCells (p : Params) (l : List ℕ) (across down : CoreRow) : Type 0 where
-  pub cores : SideCores p across down
-  pub sound : listVerdict p l ≡ Sound
-
--- the walk stands at the module (c, r) of a legal symbol, or below the last of column c, with k data modules before it
-pub record AtModule (p : Params) (l : List ℕ) (across down : CoreRow) (bits modules c r k : ℕ) : Type 0 where
-  pub cells : LegalCells p l across down
+-- The walk stands at the module (c, r) of a legal symbol, or below the last of column c, with k data modules before it. The rows of
+-- Table 2 are kept.
+pub record AtModule (p : Params) (l : List ℕ) (cores : SideCores) (bits modules c r k : ℕ) : Type 0 where
   pub symbol : LegalSymbol p l bits modules
+  pub kept : cores ≡ coresFor p
   pub column : c < columns p
   pub row : r ≤ rows p
   pub ranked : k ≡ rank p l c r

@@ -5,20 +5,23 @@
 // Filling and sampling pass the modules once. For each they look through the reserved list: with the
 // 24 entries of a small symbol some ten thousand comparisons, and never more than 3.3 million, since
 // no symbol that passes test 3 has more than 3,185 modules and no list more than 1,024 entries.
+use patterns::SideCores;
 use symbology::Cell;
 use symbology::Params;
 use symbology::PatternColour;
-use tables::CoreRow;
 ghost use Prim.Native.Nat.{_+_, _*_, _≤_, _<_};
 ghost use mathlib.Core.Path.{_≡_};
 ghost use mathlib.Core.Bool.{true};
 ghost use lib.ListN.{length, getD, take, drop, set};
 ghost use lib.Seq.{sets};
-ghost use Rattle.layout.specs.Walk.{LegalSymbol, LegalCells, AtModule, FilledTo, columnBits};
+ghost use Rattle.patterns.specs.Cores.{coresFor};
+ghost use Rattle.layout.specs.Walk.{LegalSymbol, AtModule, FilledTo, columnBits};
 ghost use Rattle.symbology.specs.Bits.{value, bits};
 ghost use Rattle.symbology.specs.Parameters.{inRange};
 ghost use Rattle.symbology.specs.Sides.{columns, rows};
 ghost use Rattle.symbology.specs.Capacity.{bitsPerModule};
+ghost use Rattle.symbology.specs.Reserved.{listVerdict};
+ghost use Rattle.symbology.specs.declared.ListVerdict.the-variants.{Sound};
 ghost use Rattle.symbology.specs.Placement.{patternCell, cellAt, rank, maskGenerators, maskAt, moduleAt, filled, bitsAt, sampled, firstBadModule};
 
 fn wide(n: u32) -> usize
@@ -27,7 +30,7 @@ fn wide(n: u32) -> usize
     n as usize
 }
 
-fn narrow(n: u16) -> u8
+fn narrow(n: usize) -> u8
     requires { ⌜ n < 256 ⌝ }
     ensures { λ r. ⌜ r ≡ n ⌝ }
 {
@@ -46,6 +49,14 @@ fn rows_of(p: Params) -> usize
     ensures { λ r. ⌜ (r ≡ rows p) × (r ≤ 145) ⌝ }
 {
     tables::side_size(wide(p.vertical))
+}
+
+// The index of the module (c, r) in a matrix.
+fn index_of(p: Params, c: usize, r: usize) -> usize
+    requires { ⌜ (inRange p ≡ true) × (c < columns p) × (r < rows p) ⌝ }
+    ensures { λ i. ⌜ (i ≡ r * columns p + c) × (i < rows p * columns p) ⌝ }
+{
+    r * columns_of(p) + c
 }
 
 fn depth_of(p: Params) -> usize
@@ -69,16 +80,16 @@ fn pattern_cell(p: Params, colour: PatternColour) -> Cell
     }
 }
 
-fn cell_at(p: Params, list: &[u16], across: CoreRow, down: CoreRow, c: usize, r: usize) -> Cell
-    requires { ⌜ LegalCells p (now list) across down × (c < 256) × (r < 256) ⌝ }
+fn cell_at(p: Params, list: &[u16], cores: SideCores, c: usize, r: usize) -> Cell
+    requires { ⌜ (inRange p ≡ true) × (listVerdict p (now list) ≡ Sound) × (cores ≡ coresFor p) × (c < 256) × (r < 256) ⌝ }
     ensures { λ z. ⌜ z ≡ cellAt p (now (list .entry)) c r ⌝ }
 {
     let n = list.len() / 3;
     let k = reserved::first_entry(list, n, c + 1, r + 1);
     if k < n {
-        return Cell::Fixed(narrow(list[3 * k + 2]));
+        return Cell::Fixed(narrow(reserved::colour_of(list, k)));
     }
-    pattern_cell(p, patterns::pattern_colour(p, across, down, c + 1, r + 1))
+    pattern_cell(p, patterns::pattern_colour(p, cores, c + 1, r + 1))
 }
 
 // ---- masks
@@ -144,19 +155,18 @@ fn put_bits(out: &mut [u8], at: usize, n: usize, v: u8)
 fn put_module(
     p: Params,
     list: &[u16],
-    across: CoreRow,
-    down: CoreRow,
+    cores: SideCores,
     bits: &[u8],
     matrix: &mut [u8],
     c: usize,
     r: usize,
     k: usize,
 ) -> usize
-    requires { ⌜ AtModule p (now list) across down (length (now bits)) (length (now matrix)) c r k × (r < rows p) ⌝ }
+    requires { ⌜ AtModule p (now list) cores (length (now bits)) (length (now matrix)) c r k × (r < rows p) ⌝ }
     ensures { λ next. ⌜ (next ≡ rank p (now (list .entry)) c (r + 1)) × (now (matrix .exit) ≡ set (now (matrix .entry)) (r * columns p + c) (moduleAt p (now (list .entry)) (now (bits .entry)) c r)) ⌝ }
 {
-    let at = r * columns_of(p) + c;
-    let cell = cell_at(p, list, across, down, c, r);
+    let at = index_of(p, c, r);
+    let cell = cell_at(p, list, cores, c, r);
     if let Cell::Fixed(colour) = cell {
         matrix[at] = colour;
         return k;
@@ -170,21 +180,20 @@ fn put_module(
 fn fill_column(
     p: Params,
     list: &[u16],
-    across: CoreRow,
-    down: CoreRow,
+    cores: SideCores,
     bits: &[u8],
     matrix: &mut [u8],
     c: usize,
     k: usize,
 ) -> usize
-    requires { ⌜ AtModule p (now list) across down (length (now bits)) (length (now matrix)) c 0 k × FilledTo p (now list) (now bits) (now matrix) c 0 ⌝ }
+    requires { ⌜ AtModule p (now list) cores (length (now bits)) (length (now matrix)) c 0 k × FilledTo p (now list) (now bits) (now matrix) c 0 ⌝ }
     ensures { λ next. ⌜ (next ≡ rank p (now (list .entry)) (c + 1) 0) × FilledTo p (now (list .entry)) (now (bits .entry)) (now (matrix .exit)) (c + 1) 0 ⌝ }
 {
     let height = rows_of(p);
     let mut next = k;
     let mut r = 0;
     while r < height {
-        next = put_module(p, list, across, down, bits, matrix, c, r, next);
+        next = put_module(p, list, cores, bits, matrix, c, r, next);
         r += 1;
     }
     next
@@ -195,13 +204,12 @@ pub fn fill(p: Params, list: &[u16], bits: &[u8], matrix: &mut [u8])
     requires { ⌜ LegalSymbol p (now list) (length (now bits)) (length (now matrix)) ⌝ }
     ensures { λ _. ⌜ now (matrix .exit) ≡ filled p (now (list .entry)) (now (bits .entry)) ⌝ }
 {
-    let across = tables::core_row(wide(p.horizontal));
-    let down = tables::core_row(wide(p.vertical));
+    let cores = patterns::side_cores(p);
     let width = columns_of(p);
     let mut k = 0;
     let mut c = 0;
     while c < width {
-        k = fill_column(p, list, across, down, bits, matrix, c, k);
+        k = fill_column(p, list, cores, bits, matrix, c, k);
         c += 1;
     }
 }
@@ -213,19 +221,18 @@ pub fn fill(p: Params, list: &[u16], bits: &[u8], matrix: &mut [u8])
 fn take_module(
     p: Params,
     list: &[u16],
-    across: CoreRow,
-    down: CoreRow,
+    cores: SideCores,
     matrix: &[u8],
     out: &mut [u8],
     c: usize,
     r: usize,
     k: usize,
 ) -> usize
-    requires { ⌜ AtModule p (now list) across down (length (now out)) (length (now matrix)) c r k × (r < rows p) ⌝ }
+    requires { ⌜ AtModule p (now list) cores (length (now out)) (length (now matrix)) c r k × (r < rows p) ⌝ }
     ensures { λ next. ⌜ (next ≡ rank p (now (list .entry)) c (r + 1)) × (now (out .exit) ≡ sets (now (out .entry)) (bitsPerModule (p .colours) * k) (bitsAt p (now (list .entry)) (now (matrix .entry)) c r)) ⌝ }
 {
-    let at = r * columns_of(p) + c;
-    let cell = cell_at(p, list, across, down, c, r);
+    let at = index_of(p, c, r);
+    let cell = cell_at(p, list, cores, c, r);
     if let Cell::Fixed(_) = cell {
         return k;
     }
@@ -239,21 +246,20 @@ fn take_module(
 fn sample_column(
     p: Params,
     list: &[u16],
-    across: CoreRow,
-    down: CoreRow,
+    cores: SideCores,
     matrix: &[u8],
     out: &mut [u8],
     c: usize,
     k: usize,
 ) -> usize
-    requires { ⌜ AtModule p (now list) across down (length (now out)) (length (now matrix)) c 0 k ⌝ }
+    requires { ⌜ AtModule p (now list) cores (length (now out)) (length (now matrix)) c 0 k ⌝ }
     ensures { λ next. ⌜ (next ≡ rank p (now (list .entry)) (c + 1) 0) × (now (out .exit) ≡ sets (now (out .entry)) (bitsPerModule (p .colours) * k) (columnBits p (now (list .entry)) (now (matrix .entry)) c (rows p))) ⌝ }
 {
     let height = rows_of(p);
     let mut next = k;
     let mut r = 0;
     while r < height {
-        next = take_module(p, list, across, down, matrix, out, c, r, next);
+        next = take_module(p, list, cores, matrix, out, c, r, next);
         r += 1;
     }
     next
@@ -265,13 +271,12 @@ pub fn sample(p: Params, list: &[u16], matrix: &[u8], out: &mut [u8])
     requires { ⌜ LegalSymbol p (now list) (length (now out)) (length (now matrix)) ⌝ }
     ensures { λ _. ⌜ now (out .exit) ≡ sampled p (now (list .entry)) (now (matrix .entry)) ⌝ }
 {
-    let across = tables::core_row(wide(p.horizontal));
-    let down = tables::core_row(wide(p.vertical));
+    let cores = patterns::side_cores(p);
     let width = columns_of(p);
     let mut k = 0;
     let mut c = 0;
     while c < width {
-        k = sample_column(p, list, across, down, matrix, out, c, k);
+        k = sample_column(p, list, cores, matrix, out, c, k);
         c += 1;
     }
 }

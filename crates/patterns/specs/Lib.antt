@@ -1,1 +1,1 @@
-pub mod SideCores
+pub mod Cores

@@ -1,5 +1,6 @@
 // The finder and alignment patterns: which colour they give a module. `pattern_colour` is the way
-// in; the others follow its definition, one function for each.
+// in, with the rows of Table 2 from `side_cores`; the others follow its definition, one function for
+// each.
 use symbology::Near;
 use symbology::Params;
 use symbology::Pattern;
@@ -7,11 +8,29 @@ use symbology::PatternColour;
 use tables::CoreRow;
 ghost use Prim.Native.Nat.{_+_, _≤_, _<_, max};
 ghost use mathlib.Core.Path.{_≡_};
-ghost use mathlib.Core.Bool.{_&&_, _||_};
+ghost use mathlib.Core.Bool.{true, _&&_, _||_};
 ghost use lib.Dec.{leb, eqb};
 ghost use lib.ListN.{length, take};
-ghost use Rattle.patterns.specs.SideCores.{SideCores};
+ghost use Rattle.patterns.specs.Cores.{coresFor};
+ghost use Rattle.symbology.specs.Parameters.{inRange};
 ghost use Rattle.symbology.specs.Patterns.{nearCore, finder, cornerAlignment, innerAlignment, patternOf, offCore, inSquares, colourIn, patternColour};
+
+// The rows of Table 2 for the two sides of a symbol. A caller that asks for many modules keeps them.
+pub struct SideCores {
+    pub across: CoreRow,
+    pub down: CoreRow,
+}
+
+// The cores of a symbol's sides.
+pub fn side_cores(p: Params) -> SideCores
+    requires { ⌜ inRange p ≡ true ⌝ }
+    ensures { λ r. ⌜ r ≡ coresFor p ⌝ }
+{
+    SideCores {
+        across: tables::core_row(p.horizontal as usize),
+        down: tables::core_row(p.vertical as usize),
+    }
+}
 
 fn wide(b: u8) -> usize
     ensures { λ r. ⌜ (r ≡ b) × (r < 256) ⌝ }
@@ -198,18 +217,13 @@ fn colour_in(s: Pattern, o: usize, u: usize) -> PatternColour
     s.core
 }
 
-// The colour that a pattern gives the module at column x, row y, counted from 1. `across` and `down`
-// are the rows of Table 2 for the two sides of the symbol, which a caller in a loop keeps.
-pub fn pattern_colour(
-    p: Params,
-    across: CoreRow,
-    down: CoreRow,
-    x: usize,
-    y: usize,
-) -> PatternColour
-    requires { ⌜ SideCores p across down × (x < 65536) × (y < 65536) ⌝ }
+// The colour that a pattern gives the module at column x, row y, counted from 1.
+pub fn pattern_colour(p: Params, cores: SideCores, x: usize, y: usize) -> PatternColour
+    requires { ⌜ (inRange p ≡ true) × (cores ≡ coresFor p) × (x < 65536) × (y < 65536) ⌝ }
     ensures { λ r. ⌜ r ≡ patternColour p x y ⌝ }
 {
+    let across = cores.across;
+    let down = cores.down;
     let Near::Core(i, o) = near_core(across, x) else {
         return PatternColour::Outside;
     };

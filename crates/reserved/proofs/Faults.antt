@@ -13,7 +13,7 @@ use Rattle.symbology.specs.Ranges.{within, lowest}
 use Rattle.symbology.specs.Sides.{columns, rows}
 use Rattle.symbology.specs.Patterns.{patternColour, covered}
 use Rattle.laws.proofs.Ranges.{by}
-use Rattle.symbology.specs.Reserved.{entries, firstEntry, badEntry, badAt, entryVerdict, listVerdict}
+use Rattle.symbology.specs.Reserved.{entries, entryColumn, entryRow, entryColour, firstEntry, badEntry, badAt, entryVerdict, listVerdict}
 
 -- ---- a number and its bounds
 
@@ -54,6 +54,15 @@ module _ (p : Params) (l : List ℕ) (k x y colour : ℕ) where
   pub bad-colour : outside ≡ false → on-pattern ≡ false → k ≤ firstEntry l k x y → badEntry p l k x y colour ≡ leb (p .colours) colour
   unfolding badEntry
   bad-colour a b h = rw (a, b, le-ltb (firstEntry l k x y) k h)
+
+-- the same of entry k itself, whose numbers these are
+pub bad-at : (p : Params) (l : List ℕ) (k x y colour : ℕ)
+    → x ≡ entryColumn l k
+    → y ≡ entryRow l k
+    → colour ≡ entryColour l k
+    → badEntry p l k x y colour ≡ badAt p l k
+unfolding badAt
+bad-at p l k x y colour ex ey ec = rw (ex, ey, ec)
 
 -- ---- the list
 

@@ -3,20 +3,20 @@
 //
 // `judge_list` is test 2. Both functions look at the entries one after the other: judging n entries
 // costs n × n / 2 comparisons, half a million for the 1,024 that are allowed.
+use patterns::SideCores;
 use symbology::ListVerdict;
 use symbology::Params;
 use symbology::PatternColour;
-use tables::CoreRow;
 ghost use Prim.Native.Nat.{_+_, _*_, _≤_, _<_};
 ghost use mathlib.Core.Path.{_≡_};
 ghost use mathlib.Core.Bool.{true, not, _||_};
 ghost use lib.ListN.{length};
-ghost use Rattle.patterns.specs.SideCores.{SideCores};
+ghost use Rattle.patterns.specs.Cores.{coresFor};
 ghost use Rattle.symbology.specs.Parameters.{inRange};
 ghost use Rattle.symbology.specs.Patterns.{covered};
 ghost use Rattle.symbology.specs.Ranges.{within, lowest};
 ghost use Rattle.symbology.specs.Sides.{columns, rows};
-ghost use Rattle.symbology.specs.Reserved.{entryAt, firstEntry, badEntry, badAt, listVerdict};
+ghost use Rattle.symbology.specs.Reserved.{entryColumn, entryRow, entryColour, entryAt, firstEntry, badAt, listVerdict};
 
 fn wide(n: u16) -> usize
     ensures { λ r. ⌜ (r ≡ n) × (r < 65536) ⌝ }
@@ -24,14 +24,36 @@ fn wide(n: u16) -> usize
     n as usize
 }
 
+fn column_of(list: &[u16], k: usize) -> usize
+    requires { ⌜ 3 * k + 3 ≤ length (now list) ⌝ }
+    ensures { λ r. ⌜ (r ≡ entryColumn (now (list .entry)) k) × (r < 65536) ⌝ }
+{
+    wide(list[3 * k])
+}
+
+fn row_of(list: &[u16], k: usize) -> usize
+    requires { ⌜ 3 * k + 3 ≤ length (now list) ⌝ }
+    ensures { λ r. ⌜ (r ≡ entryRow (now (list .entry)) k) × (r < 65536) ⌝ }
+{
+    wide(list[3 * k + 1])
+}
+
+// The colour index of entry k.
+pub fn colour_of(list: &[u16], k: usize) -> usize
+    requires { ⌜ 3 * k + 3 ≤ length (now list) ⌝ }
+    ensures { λ r. ⌜ (r ≡ entryColour (now (list .entry)) k) × (r < 65536) ⌝ }
+{
+    wide(list[3 * k + 2])
+}
+
 fn stands_at(list: &[u16], k: usize, x: usize, y: usize) -> bool
     requires { ⌜ 3 * k + 3 ≤ length (now list) ⌝ }
     ensures { λ r. ⌜ r ≡ entryAt (now (list .entry)) x y k ⌝ }
 {
-    if wide(list[3 * k]) != x {
+    if column_of(list, k) != x {
         return false;
     }
-    wide(list[3 * k + 1]) == y
+    row_of(list, k) == y
 }
 
 // The first of the n first entries that stands at column x, row y, and n where none does.
@@ -76,41 +98,24 @@ fn is_outside(p: Params, x: usize, y: usize) -> bool
     tables::side_size(p.vertical as usize) < y
 }
 
-// An entry k with these numbers is outside the symbol, on a pattern, at the place of an earlier one,
-// or of a colour that the symbol does not have.
-fn is_bad(
-    p: Params,
-    list: &[u16],
-    across: CoreRow,
-    down: CoreRow,
-    k: usize,
-    x: usize,
-    y: usize,
-    colour: usize,
-) -> bool
-    requires { ⌜ SideCores p across down × (3 * k ≤ length (now list)) × (x < 65536) × (y < 65536) ⌝ }
-    ensures { λ r. ⌜ r ≡ badEntry p (now (list .entry)) k x y colour ⌝ }
+// Entry k is outside the symbol, on a pattern, at the place of an earlier one, or of a colour that
+// the symbol does not have.
+fn is_bad(p: Params, list: &[u16], cores: SideCores, k: usize) -> bool
+    requires { ⌜ (inRange p ≡ true) × (cores ≡ coresFor p) × (3 * k + 3 ≤ length (now list)) ⌝ }
+    ensures { λ r. ⌜ r ≡ badAt p (now (list .entry)) k ⌝ }
 {
+    let x = column_of(list, k);
+    let y = row_of(list, k);
     if is_outside(p, x, y) {
         return true;
     }
-    if is_covered(patterns::pattern_colour(p, across, down, x, y)) {
+    if is_covered(patterns::pattern_colour(p, cores, x, y)) {
         return true;
     }
     if first_entry(list, k, x, y) < k {
         return true;
     }
-    p.colours as usize <= colour
-}
-
-fn is_bad_entry(p: Params, list: &[u16], across: CoreRow, down: CoreRow, k: usize) -> bool
-    requires { ⌜ SideCores p across down × (3 * k + 3 ≤ length (now list)) ⌝ }
-    ensures { λ r. ⌜ r ≡ badAt p (now (list .entry)) k ⌝ }
-{
-    let x = wide(list[3 * k]);
-    let y = wide(list[3 * k + 1]);
-    let colour = wide(list[3 * k + 2]);
-    is_bad(p, list, across, down, k, x, y, colour)
+    p.colours as usize <= colour_of(list, k)
 }
 
 // The first bad one of the n first entries, and n where none is bad.
@@ -118,11 +123,10 @@ fn first_bad(p: Params, list: &[u16], n: usize) -> usize
     requires { ⌜ (inRange p ≡ true) × (3 * n ≤ length (now list)) ⌝ }
     ensures { λ r. ⌜ r ≡ lowest (badAt p (now (list .entry))) n 0 ⌝ }
 {
-    let across = tables::core_row(p.horizontal as usize);
-    let down = tables::core_row(p.vertical as usize);
+    let cores = patterns::side_cores(p);
     let mut k = 0;
     while k < n {
-        if is_bad_entry(p, list, across, down, k) {
+        if is_bad(p, list, cores, k) {
             return k;
         }
         k += 1;

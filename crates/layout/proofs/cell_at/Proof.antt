@@ -16,30 +16,20 @@ add-first-entry-2 : tie.Need-add-first-entry-2
 add-first-entry-2 c = search needs
 
 first-entry-requires : tie.Need-first-entry-requires
-first-entry-requires c κs = omega arith
+first-entry-requires c κs = search needs
 
-mul-narrow : tie.Need-mul-narrow
-mul-narrow c = search needs
-
-add-narrow : tie.Need-add-narrow
-add-narrow c = search needs
-
-mul-narrow-2 : tie.Need-mul-narrow-2
-mul-narrow-2 c = search needs
-
-shared-slice-read-narrow : tie.Need-shared-slice-read-narrow
-shared-slice-read-narrow c = search needs
+colour-of-requires : tie.Need-colour-of-requires
+colour-of-requires c κs = search needs
 
 narrow-requires : tie.Need-narrow-requires
 narrow-requires c κs =
     let a = c .before .before .before .before .args in
-    let l = c .before .before .before .before .pre .0 in
-    entry-byte (a .p) (a .list .now) (l .cores .in-range) (l .sound) (c .before .before .first-entry .result) (c .before .if1 .taken)
+    omega (arith, c .colour-of .ensures .0, entry-byte (a .p) (a .list .now) (c .before .before .before .before .pre .0) (c .before .before .before .before .pre .1) (c .before .before .first-entry .result) (c .before .if1 .taken))
 
 returns : tie.Need-returns
 returns c =
     let a = c .before .before .before .before .before .args in
-    ap Fixed (c .narrow .ensures)
+    ap Fixed (c .narrow .ensures ∙ c .before .colour-of .ensures .0)
     ∙ sym (listed-cell (a .p) (a .list .now) (a .c + 1) (a .r + 1) (c .before .before .before .first-entry .result) (c .before .before .before .first-entry .ensures .0) (c .before .before .if1 .taken))
 
 add-pattern-colour : tie.Need-add-pattern-colour
@@ -49,10 +39,10 @@ add-pattern-colour-2 : tie.Need-add-pattern-colour-2
 add-pattern-colour-2 c = search needs
 
 pattern-colour-requires : tie.Need-pattern-colour-requires
-pattern-colour-requires c κs = (c .before .before .before .pre .0 .cores, omega arith, omega arith)
+pattern-colour-requires c κs = search needs
 
 pattern-cell-requires : tie.Need-pattern-cell-requires
-pattern-cell-requires c κs = c .before .before .before .before .pre .0 .cores .in-range
+pattern-cell-requires c κs = search needs
 
 returns-2 : tie.Need-returns-2
 returns-2 c =
@@ -68,10 +58,7 @@ cell-at-spec =
     add-first-entry
     add-first-entry-2
     first-entry-requires
-    mul-narrow
-    add-narrow
-    mul-narrow-2
-    shared-slice-read-narrow
+    colour-of-requires
     narrow-requires
     returns
     add-pattern-colour

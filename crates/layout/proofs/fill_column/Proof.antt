@@ -13,10 +13,10 @@ use Rattle.layout.proofs.fill_column.Statement.{statement}
 use Rattle.layout.proofs.fill_column.Tie as tie
 
 abbrev Inv-loop : tie.InvT-loop
-Inv-loop p list across down bits matrix₀ c k height next₀ r₀ matrix next r = (r ≤ rows p) × (next ≡ rank p list c r) × FilledTo p list bits matrix c r
+Inv-loop p list cores bits matrix₀ c k height next₀ r₀ matrix next r = (r ≤ rows p) × (next ≡ rank p list c r) × FilledTo p list bits matrix c r
 
 abbrev μ-loop : tie.MeasureT-loop
-μ-loop p list across down bits matrix₀ c k height next₀ r₀ matrix next r = height - r
+μ-loop p list cores bits matrix₀ c k height next₀ r₀ matrix next r = height - r
 
 rows-of-requires : tie.Need-rows-of-requires Inv-loop μ-loop
 rows-of-requires c κs = c .before .before .before .pre .0 .symbol .in-range

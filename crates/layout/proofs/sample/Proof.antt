@@ -2,45 +2,34 @@
 use Prim.Native.Nat.{_-_, _≤_, _<_}
 use mathlib.Core.Path.{_≡_, refl}
 use native.Mathlib.Omega.{arith}
-use borrow.Author.Needs.{needs}
 use Rattle.symbology.specs.Sides.{columns}
-use Rattle.laws.proofs.Parameters.{ranges}
 use Rattle.layout.proofs.Walk.{at-column}
 use Rattle.layout.proofs.Sampled.{SampledTo, sampled-length, to-first-column, to-next-column, all-sampled}
 use Rattle.layout.proofs.sample.Statement.{statement}
 use Rattle.layout.proofs.sample.Tie as tie
 
 abbrev Inv-loop : tie.InvT-loop
-Inv-loop p list matrix out₀ across down width k₀ c₀ out k c = (c ≤ columns p) × SampledTo p list matrix out₀ out c k
+Inv-loop p list matrix out₀ cores width k₀ c₀ out k c = (c ≤ columns p) × SampledTo p list matrix out₀ out c k
 
 abbrev μ-loop : tie.MeasureT-loop
-μ-loop p list matrix out₀ across down width k₀ c₀ out k c = width - c
+μ-loop p list matrix out₀ cores width k₀ c₀ out k c = width - c
 
-wide-requires : tie.Need-wide-requires Inv-loop μ-loop
-wide-requires c κs = search needs
-
-core-row-requires : tie.Need-core-row-requires Inv-loop μ-loop
-core-row-requires c κs = omega (arith, ranges (c .before .before .before .before .args .p) (c .before .before .before .before .pre .in-range) .horizontal-least, ranges (c .before .before .before .before .args .p) (c .before .before .before .before .pre .in-range) .horizontal-most, c .wide .ensures)
-
-wide-requires-2 : tie.Need-wide-requires-2 Inv-loop μ-loop
-wide-requires-2 c κs = search needs
-
-core-row-requires-2 : tie.Need-core-row-requires-2 Inv-loop μ-loop
-core-row-requires-2 c κs = omega (arith, ranges (c .before .before .before .before .before .before .args .p) (c .before .before .before .before .before .before .pre .in-range) .vertical-least, ranges (c .before .before .before .before .before .before .args .p) (c .before .before .before .before .before .before .pre .in-range) .vertical-most, c .wide2 .ensures)
+side-cores-requires : tie.Need-side-cores-requires Inv-loop μ-loop
+side-cores-requires c κs = c .before .before .before .pre .in-range
 
 columns-of-requires : tie.Need-columns-of-requires Inv-loop μ-loop
-columns-of-requires c κs = c .before .before .before .before .before .before .before .pre .in-range
+columns-of-requires c κs = c .before .before .before .before .pre .in-range
 
 loop-holds : tie.Need-loop-holds Inv-loop μ-loop
 loop-holds c =
-    let a = c .before .before .before .before .before .before .before .before .args in
+    let a = c .before .before .before .before .before .args in
     (omega arith, to-first-column (a .p) (a .list .now) (a .matrix .now) (a .out .now))
 
 sample-column-requires : tie.Need-sample-column-requires Inv-loop μ-loop
 sample-column-requires c κs =
     let i = c .before .before .loop .inv in
-    let h : c .before .before .loop .c < columns (c .before .before .before .before .before .before .before .before .before .before .before .args .p) = omega (arith, c .before .before .before .columns-of .ensures .0) in
-    at-column (c .before .before .before .before .before .before .before .before .before .before .before .pre) (c .before .before .before .before .before .before .core-row .result) (c .before .before .before .before .core-row2 .result) (c .before .before .before .before .before .before .before .wide .result) (c .before .before .before .before .before .wide2 .result) _ _ (c .before .before .loop .c) (c .before .before .loop .k) (c .before .before .before .before .before .before .core-row .ensures, c .before .before .before .before .before .before .before .wide .ensures) (c .before .before .before .before .core-row2 .ensures, c .before .before .before .before .before .wide2 .ensures) (sampled-length (i .1)) refl h (i .1 .ranked)
+    let h : c .before .before .loop .c < columns (c .before .before .before .before .before .before .before .before .args .p) = omega (arith, c .before .before .before .columns-of .ensures .0) in
+    at-column (c .before .before .before .before .before .before .before .before .pre) (c .before .before .before .before .side-cores .result) _ _ (c .before .before .loop .c) (c .before .before .loop .k) (c .before .before .before .before .side-cores .ensures) (sampled-length (i .1)) refl h (i .1 .ranked)
 
 add-c : tie.Need-add-c Inv-loop μ-loop
 add-c c = omega arith
@@ -57,8 +46,8 @@ same-length c = sampled-length (c .before .loop .inv .1)
 returns : tie.Need-returns Inv-loop μ-loop
 returns c =
     let i = c .before .loop .inv in
-    let e : c .before .loop .c ≡ columns (c .before .before .before .before .before .before .before .before .before .before .args .p) = omega (arith, i .0, c .before .before .columns-of .ensures .0) in
-    all-sampled (i .1) e (c .before .before .before .before .before .before .before .before .before .before .pre .in-range) (c .before .before .before .before .before .before .before .before .before .before .pre .sound) (c .before .before .before .before .before .before .before .before .before .before .pre .all-bits)
+    let e : c .before .loop .c ≡ columns (c .before .before .before .before .before .before .before .args .p) = omega (arith, i .0, c .before .before .columns-of .ensures .0) in
+    all-sampled (i .1) e (c .before .before .before .before .before .before .before .pre .in-range) (c .before .before .before .before .before .before .before .pre .sound) (c .before .before .before .before .before .before .before .pre .all-bits)
 
 pub sample-spec : {M : Type 1} → statement M
 sample-spec =
@@ -66,10 +55,7 @@ sample-spec =
     (tie.spec
     Inv-loop
     μ-loop
-    wide-requires
-    core-row-requires
-    wide-requires-2
-    core-row-requires-2
+    side-cores-requires
     columns-of-requires
     loop-holds
     sample-column-requires

@@ -11,10 +11,10 @@ use Rattle.layout.proofs.sample_column.Statement.{statement}
 use Rattle.layout.proofs.sample_column.Tie as tie
 
 abbrev Inv-loop : tie.InvT-loop
-Inv-loop p list across down matrix out₀ c k height next₀ r₀ out next r = (r ≤ rows p) × ColumnTo p list matrix out₀ c k out r next
+Inv-loop p list cores matrix out₀ c k height next₀ r₀ out next r = (r ≤ rows p) × ColumnTo p list matrix out₀ c k out r next
 
 abbrev μ-loop : tie.MeasureT-loop
-μ-loop p list across down matrix out₀ c k height next₀ r₀ out next r = height - r
+μ-loop p list cores matrix out₀ c k height next₀ r₀ out next r = height - r
 
 rows-of-requires : tie.Need-rows-of-requires Inv-loop μ-loop
 rows-of-requires c κs = c .before .before .before .pre .symbol .in-range

@@ -4,24 +4,16 @@ use mathlib.Core.Path.{_∙_, sym, ap, ap₂}
 use native.Mathlib.Omega.{arith}
 use lib.Seq.{sets}
 use Rattle.symbology.specs.Capacity.{bitsPerModule}
-use Rattle.layout.proofs.Walk.{sides-most, index-inside, bits-there, rank-small, fixed-next, data-next, fixed-bits, data-bits-are}
+use Rattle.layout.proofs.Walk.{module-inside, cell-legal, mask-legal, bits-there, rank-small, fixed-next, data-next, fixed-bits, data-bits-are}
 use borrow.Author.Needs.{needs}
 use Rattle.layout.proofs.take_module.Statement.{statement}
 use Rattle.layout.proofs.take_module.Tie as tie
 
-columns-of-requires : tie.Need-columns-of-requires
-columns-of-requires c κs = c .before .before .before .pre .0 .symbol .in-range
-
-mul-at : tie.Need-mul-at
-mul-at c = omega (arith, index-inside (c .before .before .before .before .pre .0) (c .columns-of .result) (c .columns-of .ensures .0) (c .before .before .before .before .pre .1))
-
-add-at : tie.Need-add-at
-add-at c = omega (arith, index-inside (c .before .before .before .before .pre .0) (c .columns-of .result) (c .columns-of .ensures .0) (c .before .before .before .before .pre .1))
+index-of-requires : tie.Need-index-of-requires
+index-of-requires c κs = module-inside (c .before .before .before .pre .0) (c .before .before .before .pre .1)
 
 cell-at-requires : tie.Need-cell-at-requires
-cell-at-requires c κs =
-    let w = c .before .before .before .before .pre .0 in
-    (w .cells, omega (arith, sides-most w, w .column), omega (arith, sides-most w, c .before .before .before .before .pre .1))
+cell-at-requires c κs = cell-legal (c .before .before .before .before .pre .0) (c .before .before .before .before .pre .1)
 
 enum-told : tie.Need-enum-told
 enum-told c = search needs
@@ -37,7 +29,7 @@ enum-told-2 : tie.Need-enum-told-2
 enum-told-2 c = search needs
 
 depth-of-requires : tie.Need-depth-of-requires
-depth-of-requires c κs = c .before .before .before .before .before .before .before .pre .0 .symbol .in-range
+depth-of-requires c κs = search needs
 
 mul-put-bits : tie.Need-mul-put-bits
 mul-put-bits c =
@@ -45,12 +37,10 @@ mul-put-bits c =
     omega (arith, bits-there (c .before .before .before .before .before .before .before .before .before .pre .0) (c .before .depth-of .result) (c .before .depth-of .ensures .0) (c .before .before .before .before .before .before .before .before .before .pre .1) e)
 
 shared-slice-read-put-bits : tie.Need-shared-slice-read-put-bits
-shared-slice-read-put-bits c = index-inside (c .before .before .before .before .before .before .before .before .before .before .pre .0) (c .before .before .before .before .before .before .columns-of .result) (c .before .before .before .before .before .before .columns-of .ensures .0) (c .before .before .before .before .before .before .before .before .before .before .pre .1)
+shared-slice-read-put-bits c = search needs
 
 mask-at-requires : tie.Need-mask-at-requires
-mask-at-requires c κs =
-    let w = c .before .before .before .before .before .before .before .before .before .before .pre .0 in
-    (w .symbol .in-range, omega (arith, sides-most w, w .column), omega (arith, sides-most w, c .before .before .before .before .before .before .before .before .before .before .pre .1))
+mask-at-requires c κs = mask-legal (c .before .before .before .before .before .before .before .before .before .before .pre .0) (c .before .before .before .before .before .before .before .before .before .before .pre .1)
 
 put-bits-requires : tie.Need-put-bits-requires
 put-bits-requires c κs =
@@ -70,15 +60,13 @@ returns-2 c =
     let a = c .before .before .before .before .before .before .before .before .before .before .before .before .before .before .args in
     let w = c .before .before .before .before .before .before .before .before .before .before .before .before .before .before .pre .0 in
     let e = sym (c .before .before .before .before .before .before .before .before .before .cell-at .ensures) ∙ c .before .before .before .before .before .before .before .enum-told2 .given .1 in
-    (data-next w e, c .before .before .put-bits .ensures ∙ ap₂ (sets (a .out .now)) (ap (λ (n : ℕ). n * a .k) (c .before .before .before .before .before .before .depth-of .ensures .0)) (data-bits-are w (a .matrix .now) (c .before .before .before .before .before .before .depth-of .result) (c .before .before .before .before .before .before .before .before .before .before .columns-of .result) (c .before .before .before .mask-at .result) (c .before .before .before .before .before .before .depth-of .ensures .0) (c .before .before .before .before .before .before .before .before .before .before .columns-of .ensures .0) (c .before .before .before .mask-at .ensures) e))
+    (data-next w e, c .before .before .put-bits .ensures ∙ ap₂ (sets (a .out .now)) (ap (λ (n : ℕ). n * a .k) (c .before .before .before .before .before .before .depth-of .ensures .0)) (data-bits-are w (a .matrix .now) (c .before .before .before .before .before .before .depth-of .result) (c .before .before .before .before .before .before .before .before .before .before .index-of .result) (c .before .before .before .mask-at .result) (c .before .before .before .before .before .before .depth-of .ensures .0) (c .before .before .before .before .before .before .before .before .before .before .index-of .ensures .0) (c .before .before .before .mask-at .ensures) e))
 
 pub take-module-spec : {M : Type 1} → statement M
 take-module-spec =
     tie.close
     (tie.spec
-    columns-of-requires
-    mul-at
-    add-at
+    index-of-requires
     cell-at-requires
     enum-told
     returns

@@ -1,6 +1,6 @@
 -- `patterns::pattern_colour` meets its contract. Assumes nothing.
-use mathlib.Core.Path.{_≡_, _∙_, sym, ap, ap₂}
 use Prim.Native.Nat.{ℕ}
+use mathlib.Core.Path.{_≡_, _∙_, sym, ap, ap₂}
 use Rattle.symbology.specs.declared.Pattern.{Pattern}
 use Rattle.symbology.specs.Patterns.{patternOf, colourIn}
 use Rattle.patterns.proofs.Meeting.{across-row, down-row, column-apart, row-apart, both-near, number-across, number-down}
@@ -10,8 +10,8 @@ use Rattle.patterns.proofs.pattern_colour.Tie as tie
 
 near-core-requires : tie.Need-near-core-requires
 near-core-requires c κs =
-    let rows = across-row (c .args .p) (c .args .across) (c .args .down) (c .pre .0) in
-    (rows .0, rows .1, c .pre .1)
+    let rows = across-row (c .before .before .args .p) (c .before .before .args .cores) (c .before .before .pre .0) (c .before .before .pre .1) in
+    (rows .0, rows .1, c .before .before .pre .2)
 
 enum-known-i : tie.Need-enum-known-i
 enum-known-i c = search needs
@@ -21,13 +21,13 @@ enum-told c = search needs
 
 returns : tie.Need-returns
 returns c =
-    let a = c .before .before .before .args in
-    sym (column-apart (a .p) (a .across) (a .down) (c .before .before .before .pre .0) (a .x) (a .y) (sym (c .before .before .near-core .ensures) ∙ c .enum-told .given .1))
+    let a = c .before .before .before .before .before .args in
+    sym (column-apart (a .p) (a .cores) (c .before .before .before .before .before .pre .0) (c .before .before .before .before .before .pre .1) (a .x) (a .y) (sym (c .before .before .near-core .ensures) ∙ c .enum-told .given .1))
 
 near-core-requires-2 : tie.Need-near-core-requires-2
 near-core-requires-2 c κs =
-    let rows = down-row (c .before .before .before .before .args .p) (c .before .before .before .before .args .across) (c .before .before .before .before .args .down) (c .before .before .before .before .pre .0) in
-    (rows .0, rows .1, c .before .before .before .before .pre .2)
+    let rows = down-row (c .before .before .before .before .before .before .args .p) (c .before .before .before .before .before .before .args .cores) (c .before .before .before .before .before .before .pre .0) (c .before .before .before .before .before .before .pre .1) in
+    (rows .0, rows .1, c .before .before .before .before .before .before .pre .3)
 
 enum-known-j : tie.Need-enum-known-j
 enum-known-j c = search needs
@@ -37,9 +37,9 @@ enum-told-2 c = search needs
 
 returns-2 : tie.Need-returns-2
 returns-2 c =
-    let a = c .before .before .before .before .before .before .before .args in
+    let a = c .before .before .before .before .before .before .before .before .before .args in
     let i = c .before .before .before .before .i .given .0 in
-    sym (row-apart (a .p) (a .across) (a .down) (c .before .before .before .before .before .before .before .pre .0) (a .x) (a .y) (i .0) (i .1 .0) (sym (c .before .before .before .before .before .before .near-core .ensures) ∙ c .before .before .before .before .i .given .1) (sym (c .before .before .near-core2 .ensures) ∙ c .enum-told2 .given .1))
+    sym (row-apart (a .p) (a .cores) (c .before .before .before .before .before .before .before .before .before .pre .0) (c .before .before .before .before .before .before .before .before .before .pre .1) (a .x) (a .y) (i .0) (i .1 .0) (sym (c .before .before .before .before .before .before .near-core .ensures) ∙ c .before .before .before .before .i .given .1) (sym (c .before .before .near-core2 .ensures) ∙ c .enum-told2 .given .1))
 
 wide-requires : tie.Need-wide-requires
 wide-requires c κs = search needs
@@ -49,21 +49,21 @@ wide-requires-2 c κs = search needs
 
 pattern-of-requires : tie.Need-pattern-of-requires
 pattern-of-requires c κs =
-    let a = c .before .before .before .before .before .before .before .before .before .before .args in
+    let a = c .before .before .before .before .before .before .before .before .before .before .before .before .args in
     let i = c .before .before .before .before .before .before .before .i .given .0 in
     let j = c .before .before .before .j .given .0 in
-    (number-across (a .p) (a .across) (a .down) (c .before .before .before .before .before .before .before .before .before .before .pre .0) (a .x) (i .0) (i .1 .0) (sym (c .before .before .before .before .before .before .before .before .before .near-core .ensures) ∙ c .before .before .before .before .before .before .before .i .given .1), number-down (a .p) (a .across) (a .down) (c .before .before .before .before .before .before .before .before .before .before .pre .0) (a .y) (j .0) (j .1 .0) (sym (c .before .before .before .before .before .near-core2 .ensures) ∙ c .before .before .before .j .given .1))
+    (number-across (a .p) (a .cores) (c .before .before .before .before .before .before .before .before .before .before .before .before .pre .0) (c .before .before .before .before .before .before .before .before .before .before .before .before .pre .1) (a .x) (i .0) (i .1 .0) (sym (c .before .before .before .before .before .before .before .before .before .near-core .ensures) ∙ c .before .before .before .before .before .before .before .i .given .1), number-down (a .p) (a .cores) (c .before .before .before .before .before .before .before .before .before .before .before .before .pre .0) (c .before .before .before .before .before .before .before .before .before .before .before .before .pre .1) (a .y) (j .0) (j .1 .0) (sym (c .before .before .before .before .before .near-core2 .ensures) ∙ c .before .before .before .j .given .1))
 
 colour-in-requires : tie.Need-colour-in-requires
 colour-in-requires c κs = search needs
 
 returns-3 : tie.Need-returns-3
 returns-3 c =
-    let a = c .before .before .before .before .before .before .before .before .before .before .before .before .args in
+    let a = c .before .before .before .before .before .before .before .before .before .before .before .before .before .before .args in
     let i = c .before .before .before .before .before .before .before .before .before .i .given .0 in
     let j = c .before .before .before .before .before .j .given .0 in
-    let colour = both-near (a .p) (a .across) (a .down) (c .before .before .before .before .before .before .before .before .before .before .before .before .pre .0) (a .x) (a .y) (i .0) (i .1 .0) (j .0) (j .1 .0) (sym (c .before .before .before .before .before .before .before .before .before .before .before .near-core .ensures) ∙ c .before .before .before .before .before .before .before .before .before .i .given .1) (sym (c .before .before .before .before .before .before .before .near-core2 .ensures) ∙ c .before .before .before .before .before .j .given .1) in
-    let pattern : c .before .pattern-of .result ≡ patternOf (a .p .kind) (a .p .turn) (a .across .len) (a .down .len) (i .0) (j .0) = c .before .pattern-of .ensures ∙ ap₂ (λ (m n : ℕ). patternOf (a .p .kind) (a .p .turn) m n (i .0) (j .0)) (c .before .before .before .wide .ensures .0) (c .before .before .wide2 .ensures .0) in
+    let colour = both-near (a .p) (a .cores) (c .before .before .before .before .before .before .before .before .before .before .before .before .before .before .pre .0) (c .before .before .before .before .before .before .before .before .before .before .before .before .before .before .pre .1) (a .x) (a .y) (i .0) (i .1 .0) (j .0) (j .1 .0) (sym (c .before .before .before .before .before .before .before .before .before .before .before .near-core .ensures) ∙ c .before .before .before .before .before .before .before .before .before .i .given .1) (sym (c .before .before .before .before .before .before .before .near-core2 .ensures) ∙ c .before .before .before .before .before .j .given .1) in
+    let pattern : c .before .pattern-of .result ≡ patternOf (a .p .kind) (a .p .turn) (a .cores .across .len) (a .cores .down .len) (i .0) (j .0) = c .before .pattern-of .ensures ∙ ap₂ (λ (m n : ℕ). patternOf (a .p .kind) (a .p .turn) m n (i .0) (j .0)) (c .before .before .before .wide .ensures .0) (c .before .before .wide2 .ensures .0) in
     c .colour-in .ensures ∙ ap (λ (s : Pattern). colourIn s (i .1 .0) (j .1 .0)) pattern ∙ sym colour
 
 pub pattern-colour-spec : {M : Type 1} → statement M

@@ -2,45 +2,30 @@
 use Prim.Native.Nat.{_-_}
 use mathlib.Core.Path.{_∙_, sym}
 use native.Mathlib.Omega.{arith}
-use borrow.Author.Needs.{needs}
 use Rattle.symbology.specs.Reserved.{badAt}
-use Rattle.laws.proofs.Parameters.{ranges}
 use Rattle.laws.proofs.Search.{Left, left-all, left-next, left-found, left-none}
 use Rattle.reserved.proofs.first_bad.Statement.{statement}
 use Rattle.reserved.proofs.first_bad.Tie as tie
 
 abbrev Inv-loop : tie.InvT-loop
-Inv-loop p list n across down k₀ k = Left (badAt p list) n k
+Inv-loop p list n cores k₀ k = Left (badAt p list) n k
 
 abbrev μ-loop : tie.MeasureT-loop
-μ-loop p list n across down k₀ k = n - k
+μ-loop p list n cores k₀ k = n - k
 
-cast-core-row : tie.Need-cast-core-row Inv-loop μ-loop
-cast-core-row c = search needs
-
-core-row-requires : tie.Need-core-row-requires Inv-loop μ-loop
-core-row-requires c κs =
-    let r = ranges (c .before .before .args .p) (c .before .before .pre .0) in
-    (r .horizontal-least, r .horizontal-most)
-
-cast-core-row-2 : tie.Need-cast-core-row-2 Inv-loop μ-loop
-cast-core-row-2 c = search needs
-
-core-row-requires-2 : tie.Need-core-row-requires-2 Inv-loop μ-loop
-core-row-requires-2 c κs =
-    let r = ranges (c .before .before .before .before .args .p) (c .before .before .before .before .pre .0) in
-    (r .vertical-least, r .vertical-most)
+side-cores-requires : tie.Need-side-cores-requires Inv-loop μ-loop
+side-cores-requires c κs = c .before .pre .0
 
 loop-holds : tie.Need-loop-holds Inv-loop μ-loop
-loop-holds c = left-all (badAt (c .before .before .before .before .before .args .p) (c .before .before .before .before .before .args .list .now)) (c .before .before .before .before .before .args .n)
+loop-holds c = left-all (badAt (c .before .before .args .p) (c .before .before .args .list .now)) (c .before .before .args .n)
 
-is-bad-entry-requires : tie.Need-is-bad-entry-requires Inv-loop μ-loop
-is-bad-entry-requires c κs = (record { in-range = c .before .before .before .before .before .before .before .pre .0; across-is = c .before .before .before .before .core-row .ensures; down-is = c .before .before .core-row2 .ensures }, omega arith)
+is-bad-requires : tie.Need-is-bad-requires Inv-loop μ-loop
+is-bad-requires c κs = (c .before .before .before .before .pre .0, c .before .before .side-cores .ensures, omega arith)
 
 returns : tie.Need-returns Inv-loop μ-loop
 returns c =
-    let a = c .before .before .before .before .before .before .before .before .before .args in
-    sym (left-found (badAt (a .p) (a .list .now)) (a .n) (c .before .before .before .loop .k) (c .before .before .before .loop .inv) (c .before .before .loop-test .taken) (sym (c .before .is-bad-entry .ensures) ∙ c .if1 .taken))
+    let a = c .before .before .before .before .before .before .args in
+    sym (left-found (badAt (a .p) (a .list .now)) (a .n) (c .before .before .before .loop .k) (c .before .before .before .loop .inv) (c .before .before .loop-test .taken) (sym (c .before .is-bad .ensures) ∙ c .if1 .taken))
 
 add-k : tie.Need-add-k Inv-loop μ-loop
 add-k c = omega arith
@@ -50,12 +35,12 @@ loop-less c = omega arith
 
 loop-again : tie.Need-loop-again Inv-loop μ-loop
 loop-again c =
-    let a = c .before .before .before .before .before .before .before .before .before .args in
-    left-next (badAt (a .p) (a .list .now)) (a .n) (c .before .before .before .loop .k) (c .before .before .before .loop .inv) (c .before .before .loop-test .taken) (sym (c .before .is-bad-entry .ensures) ∙ c .if1 .left)
+    let a = c .before .before .before .before .before .before .args in
+    left-next (badAt (a .p) (a .list .now)) (a .n) (c .before .before .before .loop .k) (c .before .before .before .loop .inv) (c .before .before .loop-test .taken) (sym (c .before .is-bad .ensures) ∙ c .if1 .left)
 
 returns-2 : tie.Need-returns-2 Inv-loop μ-loop
 returns-2 c =
-    let a = c .before .before .before .before .before .before .before .args in
+    let a = c .before .before .before .before .args in
     sym (left-none (badAt (a .p) (a .list .now)) (a .n) (c .before .loop .k) (c .before .loop .inv) (c .loop-test .left))
 
 pub first-bad-spec : {M : Type 1} → statement M
@@ -64,12 +49,9 @@ first-bad-spec =
     (tie.spec
     Inv-loop
     μ-loop
-    cast-core-row
-    core-row-requires
-    cast-core-row-2
-    core-row-requires-2
+    side-cores-requires
     loop-holds
-    is-bad-entry-requires
+    is-bad-requires
     returns
     add-k
     loop-less

@@ -1,19 +1,34 @@
 -- `reserved::is_bad` meets its contract: each fault after those before it. Assumes nothing.
-use mathlib.Core.Path.{_≡_, _∙_, sym, ap}
+use Prim.Native.Nat.{ℕ}
+use mathlib.Core.Path.{_≡_, refl, _∙_, sym, ap}
 use native.Mathlib.Omega.{arith}
 use Rattle.symbology.specs.Patterns.{patternColour, covered}
-use Rattle.reserved.proofs.Faults.{bad-outside, bad-pattern, bad-repeat, bad-colour}
+use Rattle.symbology.specs.Reserved.{entryColour, badEntry, badAt}
+use Rattle.reserved.proofs.Faults.{bad-outside, bad-pattern, bad-repeat, bad-colour, bad-at}
 use borrow.Author.Needs.{needs}
 use Rattle.reserved.proofs.is_bad.Statement.{statement}
 use Rattle.reserved.proofs.is_bad.Tie as tie
 
+column-of-requires : tie.Need-column-of-requires
+column-of-requires c κs = search needs
+
+row-of-requires : tie.Need-row-of-requires
+row-of-requires c κs = search needs
+
 is-outside-requires : tie.Need-is-outside-requires
 is-outside-requires c κs = search needs
 
-returns : tie.Need-returns
-returns c =
+-- the verdict on the entry is that on its numbers
+entry-is : (c : tie.After-row-of) (colour : ℕ)
+    → let a = c .before .before .before .args in
+    colour ≡ entryColour (a .list .now) (a .k)
+    → badEntry (a .p) (a .list .now) (a .k) (c .before .column-of .result) (c .row-of .result) colour ≡ badAt (a .p) (a .list .now) (a .k)
+entry-is c colour e =
     let a = c .before .before .before .args in
-    sym (bad-outside (a .p) (a .list .now) (a .k) (a .x) (a .y) (a .colour) (sym (c .before .is-outside .ensures) ∙ c .if1 .taken))
+    bad-at (a .p) (a .list .now) (a .k) (c .before .column-of .result) (c .row-of .result) colour (c .before .column-of .ensures .0) (c .row-of .ensures .0) e
+
+returns : tie.Need-returns
+returns c = sym (bad-outside _ _ _ _ _ _ (sym (c .before .is-outside .ensures) ∙ c .if1 .taken)) ∙ entry-is ((c .before .before)) _ refl
 
 pattern-colour-requires : tie.Need-pattern-colour-requires
 pattern-colour-requires c κs = search needs
@@ -23,35 +38,40 @@ is-covered-requires c κs = search needs
 
 -- whether the entry stands on a pattern
 pattern-is : (c : tie.After-is-covered)
-    → let a = c .before .before .before .before .before .args in
-    c .is-covered .result ≡ covered (patternColour (a .p) (a .x) (a .y))
+    → let s = c .before .before .before .before .before .before in
+    c .is-covered .result ≡ covered (patternColour (s .before .args .p) (c .before .before .before .before .before .column-of .result) (c .before .before .before .before .row-of .result))
 pattern-is c = c .is-covered .ensures ∙ ap covered (c .before .pattern-colour .ensures)
 
 returns-2 : tie.Need-returns-2
 returns-2 c =
-    let a = c .before .before .before .before .before .before .args in
-    sym (bad-pattern (a .p) (a .list .now) (a .k) (a .x) (a .y) (a .colour) (sym (c .before .before .before .before .is-outside .ensures) ∙ c .before .before .before .if1 .left) (sym (pattern-is ((c .before))) ∙ c .if2 .taken))
+    sym (bad-pattern _ _ _ _ _ _ (sym (c .before .before .before .before .is-outside .ensures) ∙ c .before .before .before .if1 .left) (sym (pattern-is ((c .before))) ∙ c .if2 .taken))
+    ∙ entry-is ((c .before .before .before .before .before)) _ refl
 
 first-entry-requires : tie.Need-first-entry-requires
 first-entry-requires c κs = search needs
 
 returns-3 : tie.Need-returns-3
 returns-3 c =
-    let a = c .before .before .before .before .before .before .before .before .args in
-    sym (bad-repeat (a .p) (a .list .now) (a .k) (a .x) (a .y) (a .colour) (sym (c .before .before .before .before .before .before .is-outside .ensures) ∙ c .before .before .before .before .before .if1 .left) (sym (pattern-is ((c .before .before .before))) ∙ c .before .before .if2 .left) (omega (arith, c .before .first-entry .ensures .0, c .if3 .taken)))
+    sym (bad-repeat _ _ _ _ _ _ (sym (c .before .before .before .before .before .before .is-outside .ensures) ∙ c .before .before .before .before .before .if1 .left) (sym (pattern-is ((c .before .before .before))) ∙ c .before .before .if2 .left) (omega (arith, c .before .first-entry .ensures .0, c .if3 .taken)))
+    ∙ entry-is ((c .before .before .before .before .before .before .before)) _ refl
 
 cast-result : tie.Need-cast-result
 cast-result c = search needs
 
+colour-of-requires : tie.Need-colour-of-requires
+colour-of-requires c κs = search needs
+
 returns-4 : tie.Need-returns-4
 returns-4 c =
-    let a = c .before .before .before .before .before .before .before .before .before .args in
-    sym (bad-colour (a .p) (a .list .now) (a .k) (a .x) (a .y) (a .colour) (sym (c .before .before .before .before .before .before .before .is-outside .ensures) ∙ c .before .before .before .before .before .before .if1 .left) (sym (pattern-is ((c .before .before .before .before))) ∙ c .before .before .before .if2 .left) (omega (arith, c .before .before .first-entry .ensures .0, c .before .if3 .left)))
+    sym (bad-colour _ _ _ _ _ _ (sym (c .before .before .before .before .before .before .before .before .is-outside .ensures) ∙ c .before .before .before .before .before .before .before .if1 .left) (sym (pattern-is ((c .before .before .before .before .before))) ∙ c .before .before .before .before .if2 .left) (omega (arith, c .before .before .before .first-entry .ensures .0, c .before .before .if3 .left)))
+    ∙ entry-is ((c .before .before .before .before .before .before .before .before .before)) (c .colour-of .result) (c .colour-of .ensures .0)
 
 pub is-bad-spec : {M : Type 1} → statement M
 is-bad-spec =
     tie.close
     (tie.spec
+    column-of-requires
+    row-of-requires
     is-outside-requires
     returns
     pattern-colour-requires
@@ -60,4 +80,5 @@ is-bad-spec =
     first-entry-requires
     returns-3
     cast-result
+    colour-of-requires
     returns-4)
