@@ -11,14 +11,14 @@ use symbology::Modules;
 use symbology::Params;
 use symbology::Sizes;
 use symbology::SizesAnswer;
-ghost use Prim.Native.Nat.{_+_, _*_, _-_, _≤_, _<_};
+ghost use Prim.Native.Nat.{_-_, _≤_};
 ghost use mathlib.Core.Path.{_≡_};
 ghost use mathlib.Core.Bool.{true, cond, _||_};
 ghost use lib.Dec.{eqb};
 ghost use lib.ListN.{take, drop};
 ghost use Rattle.symbology.specs.Ranges.{within, allHold};
 ghost use Rattle.symbology.specs.Parameters.{rangeTests, inRange};
-ghost use Rattle.symbology.specs.Capacity.{bitsPerModule, dataModules, asBits, capacity, sizesOf};
+ghost use Rattle.symbology.specs.Capacity.{bitsPerModule, dataModules, asBits, sizesOf};
 ghost use Rattle.symbology.specs.Tests.{firstOf, sizeTests, frontTests};
 ghost use Rattle.symbology.specs.Sizes.{sizesAnswer};
 ghost use Rattle.symbology.specs.Write.{answer};
@@ -200,7 +200,7 @@ pub fn sizes_of(p: Params, listed: usize) -> Sizes
 
 // ---- the tests 1 to 5
 
-fn refusal(number: u32, place: usize) -> Answer
+fn answered(number: u32, place: usize) -> Answer
     ensures { λ r. ⌜ r ≡ answer number place ⌝ }
 {
     Answer {
@@ -214,20 +214,20 @@ pub fn size_tests(p: Params, list: &[u16]) -> Answer
     ensures { λ r. ⌜ r ≡ firstOf (sizeTests answer p (now (list .entry))) (answer 0 0) ⌝ }
 {
     if !in_range(p) {
-        return refusal(1, 0);
+        return answered(1, 0);
     }
     let verdict = reserved::judge_list(p, list);
     if let ListVerdict::Fault(place) = verdict {
-        return refusal(2, place);
+        return answered(2, place);
     }
     let c = sizes_of(p, list.len() / 3).capacity;
     if c < wide(p.wr) {
-        return refusal(3, 0);
+        return answered(3, 0);
     }
     if 4096 < c {
-        return refusal(3, 0);
+        return answered(3, 0);
     }
-    refusal(0, 0)
+    answered(0, 0)
 }
 
 // 1 to 5, for a matrix and a work buffer of these lengths; 0 where none of them holds.
@@ -240,10 +240,10 @@ pub fn front_tests(p: Params, list: &[u16], modules: usize, room: usize) -> Answ
     }
     let s = sizes_of(p, list.len() / 3);
     if modules != s.columns * s.rows {
-        return refusal(4, 0);
+        return answered(4, 0);
     }
     if room < s.work {
-        return refusal(5, 0);
+        return answered(5, 0);
     }
     first
 }

@@ -1,10 +1,11 @@
 // The matrix of a symbol: what each module holds, the masks, filling a matrix with the C bits and
 // sampling them from one.
 //
-// `fill`, `sample` and `first_bad_module` serve the calls above and ask for what those have tested.
-// Filling and sampling pass the modules once. For each they look through the reserved list: with the
-// 24 entries of a small symbol some ten thousand comparisons, and never more than 3.3 million, since
-// no symbol that passes test 3 has more than 3,185 modules and no list more than 1,024 entries.
+// `fill` and `sample` serve the calls above and ask for what those have tested; `first_bad_module` is
+// test 7. Filling and sampling pass the modules once, column by column, with a count of the data
+// modules passed. For each module they look through the reserved list: with the 24 entries of a
+// small symbol that is some ten thousand comparisons, and never more than 3.3 million, since no
+// symbol that passes test 3 has more than 3,185 modules and no list more than 1,024 entries.
 use patterns::SideCores;
 use symbology::Cell;
 use symbology::Params;

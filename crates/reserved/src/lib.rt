@@ -1,8 +1,9 @@
 // The reserved list, lent by the caller: three numbers to an entry, column, row and colour index,
 // columns and rows counted from 1 and entries from 0.
 //
-// `judge_list` is test 2. Both functions look at the entries one after the other: judging n entries
-// costs n × n / 2 comparisons, half a million for the 1,024 that are allowed.
+// `judge_list` is test 2. For each entry it looks through those before it: n entries cost n × n / 2
+// comparisons, half a million for the 1,024 that are allowed. `first_entry` looks through n of them
+// once. The functions serve the crates above this one and ask for what those have tested.
 use patterns::SideCores;
 use symbology::ListVerdict;
 use symbology::Params;

@@ -31,26 +31,26 @@ mul-if2 c =
     let range = range-passed (a .p) (a .list .now) (t .result) (t .ensures) (c .before .before .if1 .left) in
     omega (arith, area-small (a .p) (length (a .list .now) / 3) (s .result) range (s .ensures))
 
-refusal-requires : tie.Need-refusal-requires
-refusal-requires c κs = search needs
+answered-requires : tie.Need-answered-requires
+answered-requires c κs = search needs
 
 returns-2 : tie.Need-returns-2
 returns-2 c =
     let a = c .before .before .before .before .before .before .before .before .args in
     let t = c .before .before .before .before .before .before .size-tests in
     let s = c .before .before .before .sizes-of in
-    c .refusal .ensures
+    c .answered .ensures
     ∙ sym (not-the-matrix (a .p) (a .list .now) (t .result) (t .ensures) (a .modules) (a .room) (c .before .before .before .before .if1 .left) (s .result) (s .ensures) (c .before .if2 .taken))
 
-refusal-requires-2 : tie.Need-refusal-requires-2
-refusal-requires-2 c κs = search needs
+answered-requires-2 : tie.Need-answered-requires-2
+answered-requires-2 c κs = search needs
 
 returns-3 : tie.Need-returns-3
 returns-3 c =
     let a = c .before .before .before .before .before .before .before .before .before .before .args in
     let t = c .before .before .before .before .before .before .before .before .size-tests in
     let s = c .before .before .before .before .before .sizes-of in
-    c .refusal2 .ensures
+    c .answered2 .ensures
     ∙ sym (no-room (a .p) (a .list .now) (t .result) (t .ensures) (a .modules) (a .room) (c .before .before .before .before .before .before .if1 .left) (s .result) (s .ensures) (c .before .before .before .if2 .left) (c .before .if3 .taken))
 
 returns-4 : tie.Need-returns-4
@@ -68,8 +68,8 @@ front-tests-spec =
     returns
     sizes-of-requires
     mul-if2
-    refusal-requires
+    answered-requires
     returns-2
-    refusal-requires-2
+    answered-requires-2
     returns-3
     returns-4)

@@ -12,14 +12,14 @@ use Rattle.capacity.proofs.size_tests.Tie as tie
 in-range-requires : tie.Need-in-range-requires
 in-range-requires c κs = search needs
 
-refusal-requires : tie.Need-refusal-requires
-refusal-requires c κs = search needs
+answered-requires : tie.Need-answered-requires
+answered-requires c κs = search needs
 
 returns : tie.Need-returns
 returns c =
     let a = c .before .before .before .before .args in
     let range = refused (c .before .before .in-range .ensures) (c .before .if1 .taken) in
-    c .refusal .ensures ∙ sym (out-of-range answer (a .p) (a .list .now) (answer 0 0) range)
+    c .answered .ensures ∙ sym (out-of-range answer (a .p) (a .list .now) (answer 0 0) range)
 
 judge-list-requires : tie.Need-judge-list-requires
 judge-list-requires c κs = passed (c .before .in-range .ensures) (c .if1 .left)
@@ -27,15 +27,15 @@ judge-list-requires c κs = passed (c .before .in-range .ensures) (c .if1 .left)
 enum-known-verdict : tie.Need-enum-known-verdict
 enum-known-verdict c = search needs
 
-refusal-requires-2 : tie.Need-refusal-requires-2
-refusal-requires-2 c κs = search needs
+answered-requires-2 : tie.Need-answered-requires-2
+answered-requires-2 c κs = search needs
 
 returns-2 : tie.Need-returns-2
 returns-2 c =
     let a = c .before .before .before .before .before .before .before .before .args in
     let range = passed (c .before .before .before .before .before .before .in-range .ensures) (c .before .before .before .before .before .if1 .left) in
     let fault = c .before .before .verdict .given in
-    c .refusal2 .ensures
+    c .answered2 .ensures
     ∙ sym (faulty answer (a .p) (a .list .now) (answer 0 0) range (fault .0 .0) (sym (c .before .before .before .before .judge-list .ensures) ∙ fault .1))
 
 enum-told : tie.Need-enum-told
@@ -47,8 +47,8 @@ sizes-of-requires c κs = passed (c .before .before .before .before .in-range .e
 wide-requires : tie.Need-wide-requires
 wide-requires c κs = search needs
 
-refusal-requires-3 : tie.Need-refusal-requires-3
-refusal-requires-3 c κs = search needs
+answered-requires-3 : tie.Need-answered-requires-3
+answered-requires-3 c κs = search needs
 
 returns-3 : tie.Need-returns-3
 returns-3 c =
@@ -57,10 +57,10 @@ returns-3 c =
     let sound = sym (c .before .before .before .before .before .before .judge-list .ensures) ∙ c .before .before .before .before .enum-told .given .1 in
     let s = c .before .before .before .sizes-of in
     let less : s .result .capacity < a .p .wr = omega (arith, c .before .before .wide .ensures, c .before .if2 .taken) in
-    c .refusal3 .ensures ∙ sym (too-small answer (a .p) (a .list .now) (answer 0 0) range sound (s .result) (s .ensures) less)
+    c .answered3 .ensures ∙ sym (too-small answer (a .p) (a .list .now) (answer 0 0) range sound (s .result) (s .ensures) less)
 
-refusal-requires-4 : tie.Need-refusal-requires-4
-refusal-requires-4 c κs = search needs
+answered-requires-4 : tie.Need-answered-requires-4
+answered-requires-4 c κs = search needs
 
 returns-4 : tie.Need-returns-4
 returns-4 c =
@@ -69,10 +69,10 @@ returns-4 c =
     let sound = sym (c .before .before .before .before .before .before .before .judge-list .ensures) ∙ c .before .before .before .before .before .enum-told .given .1 in
     let s = c .before .before .before .before .sizes-of in
     let more : 4096 < s .result .capacity = omega (arith, c .before .if3 .taken) in
-    c .refusal4 .ensures ∙ sym (too-large answer (a .p) (a .list .now) (answer 0 0) range sound (s .result) (s .ensures) more)
+    c .answered4 .ensures ∙ sym (too-large answer (a .p) (a .list .now) (answer 0 0) range sound (s .result) (s .ensures) more)
 
-refusal-requires-5 : tie.Need-refusal-requires-5
-refusal-requires-5 c κs = search needs
+answered-requires-5 : tie.Need-answered-requires-5
+answered-requires-5 c κs = search needs
 
 returns-5 : tie.Need-returns-5
 returns-5 c =
@@ -82,25 +82,25 @@ returns-5 c =
     let s = c .before .before .before .before .sizes-of in
     let least : a .p .wr ≤ s .result .capacity = omega (arith, c .before .before .before .wide .ensures, c .before .before .if2 .left) in
     let most : s .result .capacity ≤ 4096 = omega (arith, c .before .if3 .left) in
-    c .refusal5 .ensures ∙ sym (sized answer (a .p) (a .list .now) (answer 0 0) range sound (s .result) (s .ensures) least most)
+    c .answered5 .ensures ∙ sym (sized answer (a .p) (a .list .now) (answer 0 0) range sound (s .result) (s .ensures) least most)
 
 pub size-tests-spec : {M : Type 1} → statement M
 size-tests-spec =
     tie.close
     (tie.spec
     in-range-requires
-    refusal-requires
+    answered-requires
     returns
     judge-list-requires
     enum-known-verdict
-    refusal-requires-2
+    answered-requires-2
     returns-2
     enum-told
     sizes-of-requires
     wide-requires
-    refusal-requires-3
+    answered-requires-3
     returns-3
-    refusal-requires-4
+    answered-requires-4
     returns-4
-    refusal-requires-5
+    answered-requires-5
     returns-5)

@@ -60,7 +60,7 @@ inner-patterns-requires c κs = search needs
 put-number-line-requires-2 : tie.Need-put-number-line-requires-2
 put-number-line-requires-2 c κs =
     let f = lines-fit (c .before .before .before .before .before .before .before .before .before .before .before .before .before .args .version) (c .before .before .before .before .before .before .before .before .before .before .before .if1 .left) (c .before .before .before .before .before .before .before .before .before .before .if2 .left) in
-    (omega (arith, c .before .before .before .before .before .before .before .before .put-number-line .ensures .place, c .before .before .before .before .put-cores-line .ensures .place), c .inner-patterns .ensures .1)
+    (omega (arith, c .before .before .before .before .before .before .before .before .put-number-line .ensures .place, c .before .before .before .before .put-cores-line .ensures .place), omega (arith, c .inner-patterns .ensures .1))
 
 same-length-3 : tie.Need-same-length-3
 same-length-3 c = search needs
