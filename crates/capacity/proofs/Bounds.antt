@@ -1,8 +1,15 @@
--- Bounds on the sizes of a symbol, over plain numbers: they all fit their machine numbers.
+-- Bounds on the sizes of a symbol: they all fit their machine numbers.
 -- Assumes nothing.
 use Prim.Native.Nat.{ℕ, _+_, _-_, _*_, _/_, _≤_, _<_}
+use mathlib.Core.Path.{_≡_}
+use mathlib.Core.Bool.{true}
 use native.Mathlib.Nat.{mul-le-mul, mul-le-mul-left, div-mul-le-self}
 use native.Mathlib.Omega.{arith}
+use Rattle.symbology.specs.declared.Params.{Params}
+use Rattle.symbology.specs.declared.Sizes.{Sizes}
+use Rattle.symbology.specs.Parameters.{inRange}
+use Rattle.symbology.specs.Capacity.{sizesOf}
+use Rattle.laws.proofs.Parameters.{ranges}
 
 -- a symbol has at most 145 modules along each side
 pub area-most : (a b : ℕ) → a ≤ 145 → b ≤ 145 → a * b ≤ 21025
@@ -33,3 +40,12 @@ products-most c wc wr few less =
       net = omega arith;
       matrix = mul-le-mul checks-most bytes;
     }
+
+-- a symbol with parameters in range has at most 145 × 145 modules
+pub area-small : (p : Params) (listed : ℕ) (s : Sizes) → inRange p ≡ true → s ≡ sizesOf p listed → s .columns * s .rows ≤ 21025
+unfolding sizesOf
+area-small p listed s range is =
+    let r = ranges p range in
+    let across : s .columns ≤ 145 = rw is (omega arith) in
+    let down : s .rows ≤ 145 = rw is (omega arith) in
+    area-most (s .columns) (s .rows) across down

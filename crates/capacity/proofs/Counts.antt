@@ -36,14 +36,14 @@ unfolding patternModules dataModules
 modules-are kind h v listed across down inner corner n ea ed ei ec en = rw (en, ea, ed, ei, ec)
 
 -- C, by way of the data modules and the bits per module
-pub capacity-is : (p : Params) (listed : ℕ) (m : Modules) (depth : ℕ) (b : Bits) (c : ℕ)
+pub capacity-of : (p : Params) (listed : ℕ) (m : Modules) (depth : ℕ) (b : Bits) (c : ℕ)
     → m ≡ dataModules (p .kind) (p .horizontal) (p .vertical) listed
     → depth ≡ bitsPerModule (p .colours)
     → b ≡ asBits m depth
     → c ≡ b .0
     → c ≡ capacity p listed .0
 unfolding capacity
-capacity-is p listed m depth b c em ed eb ec = ec ∙ ap (λ (x : Bits). x .0) (eb ∙ ap₂ asBits em ed)
+capacity-of p listed m depth b c em ed eb ec = ec ∙ ap (λ (x : Bits). x .0) (eb ∙ ap₂ asBits em ed)
 
 -- the record of the sizes, from C and the parameters
 pub sizes-are : (p : Params) (listed across down depth c wc wr : ℕ)

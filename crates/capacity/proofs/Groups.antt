@@ -4,12 +4,13 @@ use Prim.Native.Nat.{ℕ, zero, suc}
 use mathlib.Core.Path.{_≡_, refl, sym, ap, _∙_}
 use mathlib.Core.Bool.{Bool, true, false, not, _&&_}
 use mathlib.Core.List.{List, [], _∷_, _++_}
-use lib.ListN.{take, drop, getD}
+use lib.ListN.{getD}
 use borrow.Author.Tests.{not-true, not-false}
 use Rattle.symbology.specs.declared.Params.{Params}
 use Rattle.symbology.specs.Ranges.{allHold}
 use Rattle.symbology.specs.Parameters.{rangeTests, inRange}
 use Rattle.symbology.proofs.Ranges.{clash}
+use Rattle.capacity.specs.Groups.{sideTests, colourTests, codeTests}
 
 -- where the test at one place fails, not all hold
 pub one-fails : (ts : List Bool) (i : ℕ) → getD ts i true ≡ false → false ≡ allHold ts
@@ -33,17 +34,6 @@ unfolding allHold
 all-append [] b = refl
 all-append (true ∷ a) b = all-append a b
 all-append (false ∷ a) b = refl
-
--- kind and side-versions
-abbrev pub sideTests : Params → List Bool
-sideTests p = take 3 (rangeTests p)
-
-abbrev pub colourTests : Params → List Bool
-colourTests p = take 7 (drop 3 (rangeTests p))
-
--- code, mask and turn
-abbrev pub codeTests : Params → List Bool
-codeTests p = drop 10 (rangeTests p)
 
 -- test 1 is the three groups
 pub groups : (p : Params) → inRange p ≡ (allHold (sideTests p) && (allHold (colourTests p) && allHold (codeTests p)))

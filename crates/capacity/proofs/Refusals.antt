@@ -12,13 +12,10 @@ use Rattle.symbology.specs.declared.Sizes.{Sizes}
 use Rattle.symbology.specs.declared.Answer.{Answer}
 use Rattle.symbology.specs.declared.ListVerdict.the-variants.{Sound, Fault}
 use Rattle.symbology.specs.Parameters.{inRange}
-use Rattle.symbology.specs.Capacity.{sizesOf}
 use Rattle.symbology.specs.Reserved.{listVerdict, listNumber, listPlace}
 use Rattle.symbology.specs.Tests.{firstOf, sizesFor, sizeTests, bufferTests, frontTests}
 use Rattle.symbology.specs.Write.{answer}
-use Rattle.laws.proofs.Parameters.{ranges}
 use Rattle.laws.proofs.Tests.{first-append}
-use Rattle.capacity.proofs.Bounds.{area-most}
 
 -- ---- the tests 1 to 3
 
@@ -155,14 +152,3 @@ module _ (p : Params) (l : List ℕ) (a : Answer) (told : a ≡ firstOf (sizeTes
             front-rest
             ∙ rw (← is, eq-eqb modules (s .columns * s .rows) whole, le-ltb room (s .work) enough)
             (sym (told ∙ no-refusal answer (answer 0 0) none))
-
--- ---- the modules of a symbol
-
--- a symbol in range has few
-pub area-small : (p : Params) (listed : ℕ) (s : Sizes) → inRange p ≡ true → s ≡ sizesOf p listed → s .columns * s .rows ≤ 21025
-unfolding sizesOf
-area-small p listed s range is =
-    let r = ranges p range in
-    let across : s .columns ≤ 145 = rw is (omega arith) in
-    let down : s .rows ≤ 145 = rw is (omega arith) in
-    area-most (s .columns) (s .rows) across down

@@ -2,8 +2,9 @@
 // of the parameters, the number of data modules, the capacity, the sizes of the code, and the tests
 // 1 to 5 of document 01.
 //
-// `sizes` is for callers; it and the two functions of tests answer every input. The others serve
-// the crates above and ask for parameters in their ranges.
+// `sizes` is for callers. It, `in_range` and the two functions of tests answer every input; the others
+// serve the crates above and ask for what these have shown. All of it is a few dozen operations but
+// for test 2, which the crate `reserved` makes.
 use symbology::Answer;
 use symbology::Bits;
 use symbology::ListVerdict;
@@ -15,12 +16,12 @@ ghost use Prim.Native.Nat.{_-_, _≤_};
 ghost use mathlib.Core.Path.{_≡_};
 ghost use mathlib.Core.Bool.{true, cond, _||_};
 ghost use lib.Dec.{eqb};
-ghost use lib.ListN.{take, drop};
 ghost use Rattle.symbology.specs.Ranges.{within, allHold};
-ghost use Rattle.symbology.specs.Parameters.{rangeTests, inRange};
+ghost use Rattle.capacity.specs.Groups.{sideTests, colourTests, codeTests};
+ghost use Rattle.symbology.specs.Parameters.{inRange};
 ghost use Rattle.symbology.specs.Capacity.{bitsPerModule, dataModules, asBits, sizesOf};
 ghost use Rattle.symbology.specs.Tests.{firstOf, sizeTests, frontTests};
-ghost use Rattle.symbology.specs.Sizes.{sizesAnswer};
+ghost use Rattle.symbology.specs.SizesAnswer.{sizesAnswer};
 ghost use Rattle.symbology.specs.Write.{answer};
 
 // ---- test 1
@@ -43,9 +44,9 @@ fn is_four_or_eight(n: u32) -> bool
     n == 8
 }
 
-// The ranges are tested in three groups: kind and side-versions,
+// Kind and side-versions are in their ranges.
 fn sides_in_range(p: Params) -> bool
-    ensures { λ r. ⌜ r ≡ allHold (take 3 (rangeTests p)) ⌝ }
+    ensures { λ r. ⌜ r ≡ allHold (sideTests p) ⌝ }
 {
     if !is_within(0, 1, p.kind) {
         return false;
@@ -56,9 +57,9 @@ fn sides_in_range(p: Params) -> bool
     is_within(1, 32, p.vertical)
 }
 
-// the colours,
+// The number of colours is 4 or 8, and the three colour indices are different and below it.
 fn colours_in_range(p: Params) -> bool
-    ensures { λ r. ⌜ r ≡ allHold (take 7 (drop 3 (rangeTests p))) ⌝ }
+    ensures { λ r. ⌜ r ≡ allHold (colourTests p) ⌝ }
 {
     if !is_four_or_eight(p.colours) {
         return false;
@@ -81,9 +82,9 @@ fn colours_in_range(p: Params) -> bool
     p.cyan != p.yellow
 }
 
-// and code, mask and turn.
+// wc, wr, mask and turn are in their ranges, and wc is below wr.
 fn code_in_range(p: Params) -> bool
-    ensures { λ r. ⌜ r ≡ allHold (drop 10 (rangeTests p)) ⌝ }
+    ensures { λ r. ⌜ r ≡ allHold (codeTests p) ⌝ }
 {
     if !is_within(3, 8, p.wc) {
         return false;
@@ -115,13 +116,15 @@ pub fn in_range(p: Params) -> bool
 
 // ---- sizes
 
+// A parameter as an index; the cast of a function's own parameter asks for no proof of its range.
 fn wide(n: u32) -> usize
     ensures { λ r. ⌜ r ≡ n ⌝ }
 {
     n as usize
 }
 
-fn less(a: usize, b: usize) -> usize
+// The difference, or 0 where there is none, as in the definition of D.
+fn saturating_sub(a: usize, b: usize) -> usize
     ensures { λ r. ⌜ r ≡ a - b ⌝ }
 {
     if a < b {
@@ -130,6 +133,7 @@ fn less(a: usize, b: usize) -> usize
     a - b
 }
 
+// The modules of four finder patterns, or of four alignment patterns.
 fn corner_modules(kind: u32) -> usize
     ensures { λ r. ⌜ (r ≡ cond (eqb kind 0) 68 28) × (r ≤ 68) ⌝ }
 {
@@ -148,8 +152,8 @@ pub fn data_modules(p: Params, listed: usize) -> Modules
     let v = wide(p.vertical);
     let all = tables::side_size(h) * tables::side_size(v);
     let inner = tables::inner_patterns(h, v);
-    let unpatterned = less(all, 7 * inner + corner_modules(p.kind));
-    Modules(less(unpatterned, listed) as u32)
+    let unpatterned = saturating_sub(all, 7 * inner + corner_modules(p.kind));
+    Modules(saturating_sub(unpatterned, listed) as u32)
 }
 
 // The bits that a module represents.

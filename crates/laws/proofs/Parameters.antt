@@ -3,7 +3,7 @@
 use Prim.Native.Nat.{ℕ, _^_, _≤_, _<_}
 use mathlib.Core.Path.{_≡_, refl}
 use mathlib.Core.Bool.{Bool, true, false, not, _||_}
-use mathlib.Core.Logic.{_⊎_, inl, inr}
+use mathlib.Core.Logic.{_⊎_, inl, inr, ⊎-elim}
 use native.Mathlib.Omega.{arith}
 use lib.Dec.{eqb}
 use lib.ListN.{getD}
@@ -84,3 +84,7 @@ pub depth-some : (n : ℕ) → (n ≡ 4) ⊎ (n ≡ 8) → (1 ≤ bitsPerModule 
 unfolding bitsPerModule lowest
 depth-some n (inl e) = rw e (omega arith, omega arith)
 depth-some n (inr e) = rw e (omega arith, omega arith)
+
+-- N is some number, and at most 8
+pub some-colours : (p : Params) → inRange p ≡ true → (0 < p .colours) × (p .colours ≤ 8)
+some-colours p e = ⊎-elim (λ h. (omega arith, omega arith)) (λ h. (omega arith, omega arith)) (ranges p e .colours-are)

@@ -24,7 +24,7 @@ use Rattle.symbology.specs.Capacity.{bitsPerModule}
 use Rattle.symbology.specs.Parameters.{inRange}
 use Rattle.symbology.specs.Patterns.{patternColour}
 use Rattle.symbology.specs.Reserved.{entries, entryColour, firstEntry}
-use Rattle.symbology.specs.Placement.{patternCell, cellOf, isData, cellAt, columnData, rank, maskAt, dataModule, onCell, moduleAt, filled, cellBits, bitsAt, sampled, firstBadModule}
+use Rattle.symbology.specs.Placement.{patternCell, cellOf, isData, cellAt, columnData, rank, maskAt, dataModule, onCell, moduleAt, filled, cellBits, bitsAt, sampled, taken, firstBadModule}
 use Rattle.laws.proofs.Ranges.{lowest-none, length-tabulate, getD-tabulate}
 use Rattle.laws.proofs.Sums.{sum-ext, sum-scale, length-join, join-snoc}
 use Rattle.laws.proofs.Bits.{length-bits, bits-take, bits-are, drop-bits, value-take, join-bits}
@@ -97,10 +97,6 @@ no-bad-module p l bs e own =
     ∙ zero-add (length (filled p l bs))
 
 -- ---- sampling, module after module
-
--- the bits sampled before the module (c, r)
-unfoldable pub taken : Params → List ℕ → List ℕ → ℕ → ℕ → List ℕ
-taken p l matrix c r = joinFrom 0 c (λ x. joinFrom 0 (rows p) (λ y. bitsAt p l matrix x y)) ++ joinFrom 0 r (λ y. bitsAt p l matrix c y)
 
 -- Before the first module nothing is sampled.
 pub taken-first : (p : Params) (l matrix : List ℕ) → taken p l matrix 0 0 ≡ []

@@ -14,7 +14,7 @@ use Rattle.symbology.specs.Patterns.{patternColour}
 use Rattle.symbology.specs.Reserved.{entries, entryColour, firstEntry, listVerdict}
 use Rattle.symbology.specs.Placement.{patternCell, cellOf}
 use Rattle.laws.proofs.Reserved.{sound-list}
-use Rattle.layout.proofs.Masks.{some-colours}
+use Rattle.laws.proofs.Parameters.{some-colours}
 
 -- the colour index of an entry of a sound list is a byte
 pub entry-byte : (p : Params) (l : List ℕ) → inRange p ≡ true → listVerdict p l ≡ Sound → (k : ℕ) → k < entries l → entryColour l k < 256

@@ -1,137 +1,72 @@
--- The bits of a matrix stored one part after the other: module by module, then column by column.
+-- A matrix sampled module by module, column by column from the left, each downwards. Columns and rows count from 0.
 -- Assumes nothing.
-use Prim.Native.Nat.{ℕ, suc, _+_, _*_, _≤_}
-use mathlib.Core.Path.{_≡_, refl, sym, ap, _∙_}
+use Prim.Native.Nat.{ℕ, _+_, _*_, _≤_, _<_}
+use mathlib.Core.Path.{_≡_, sym, ap, _∙_}
 use mathlib.Core.Bool.{true}
-use mathlib.Core.List.{List, [], _∷_, _++_, append-nil}
-use native.Mathlib.Nat.{zero-add, add-zero, mul-add}
+use mathlib.Core.List.{List, _++_}
+use native.Mathlib.Nat.{mul-le-mul-left}
 use native.Mathlib.Numerals.{add-one}
 use native.Mathlib.Omega.{arith}
-use lib.ListN.{length, set, length-append, drop-of-length-le}
-use lib.Seq.{sets, length-sets, sets-eq}
+use lib.ListN.{length, take, drop, length-append}
+use lib.Seq.{length-take-le, take-at, take-length, sets, length-sets, sets-eq}
 use Rattle.symbology.specs.declared.Params.{Params}
 use Rattle.symbology.specs.declared.ListVerdict.the-variants.{Sound}
-use Rattle.symbology.specs.Sides.{columns, rows}
-use Rattle.symbology.specs.Ranges.{tally, joinFrom}
 use Rattle.symbology.specs.Parameters.{inRange}
+use Rattle.symbology.specs.Sides.{columns, rows}
 use Rattle.symbology.specs.Reserved.{listVerdict}
 use Rattle.symbology.specs.Capacity.{bitsPerModule}
-use Rattle.symbology.specs.Placement.{cellAt, isData, rank, bitsAt, sampled}
+use Rattle.symbology.specs.Placement.{rank, bitsAt, sampled, taken}
 use Rattle.symbology.specs.Tests.{sizesFor}
-use Rattle.laws.proofs.Sums.{join-snoc}
-use Rattle.laws.proofs.Ranks.{rank-first, rank-next}
-use Rattle.laws.proofs.Placement.{taken, taken-first, taken-column, taken-last, length-module, length-taken, length-sampled}
+use Rattle.laws.proofs.Ranks.{dataTotal, rank-most}
+use Rattle.laws.proofs.Placement.{taken-first, taken-next, taken-column, taken-last, length-taken, length-sampled}
 use Rattle.laws.proofs.Sizes.{data-bits}
-use Rattle.layout.specs.Walk.{columnBits}
+use Rattle.layout.specs.Walk.{SampledTo}
 
--- ---- runs of stores
+-- what stands before the end of a run of stores
+take-sets : (o xs : List ℕ) (at : ℕ) → at + length xs ≤ length o → take (at + length xs) (sets o at xs) ≡ take at o ++ xs
+take-sets o xs at h =
+    let front : List ℕ = take at o ++ xs in
+    let long : length front ≡ at + length xs = length-append (take at o) xs ∙ ap (λ (n : ℕ). n + length xs) (length-take-le at o (omega arith)) in
+    ap (take (at + length xs)) (sets-eq xs o at h) ∙ take-at front (drop (at + length xs) o) (at + length xs) long
 
--- one run behind another
-pub sets-join : (o xs ys : List ℕ) (at : ℕ) → sets (sets o at xs) (at + length xs) ys ≡ sets o at (xs ++ ys)
-sets-join o [] ys at = rw (add-zero at)
-sets-join o (x ∷ xs) ys at =
-    let ahead : at + suc (length xs) ≡ suc at + length xs = omega arith in
-    rw ahead (sets-join (set o at x) xs ys (suc at))
+-- before the first module nothing is asked for
+pub sampled-start : (p : Params) (l matrix out : List ℕ) → length out ≡ sizesFor p l .capacity → SampledTo p l matrix out 0 0
+sampled-start p l matrix out e = record { whole = e; first = rw (taken-first p l matrix) }
 
--- a run over the whole list
-pub sets-whole : (o xs : List ℕ) → length xs ≡ length o → sets o 0 xs ≡ xs
-sets-whole o xs e =
-    let fits : 0 + length xs ≤ length o = omega arith in
-    let past : length o ≤ 0 + length xs = omega arith in
-    sets-eq xs o 0 fits ∙ rw (drop-of-length-le o past) (append-nil xs)
+module _ {p : Params} {l matrix out : List ℕ} where
+  -- the bits of the module (c, r), before which k data modules stand, are stored
+  pub sampled-next : {c r : ℕ}
+      → SampledTo p l matrix out c r
+      → inRange p ≡ true
+      → listVerdict p l ≡ Sound
+      → c < columns p
+      → r < rows p
+      → (k : ℕ)
+      → k ≡ rank p l c r
+      → SampledTo p l matrix (sets out (bitsPerModule (p .colours) * k) (bitsAt p l matrix c r)) c (r + 1)
+  sampled-next {c} {r} s range sound inside below k e =
+      let depth : ℕ = bitsPerModule (p .colours) in
+      let before : List ℕ = taken p l matrix c r in
+      let here : List ℕ = bitsAt p l matrix c r in
+      let more : taken p l matrix c (r + 1) ≡ before ++ here = ap (taken p l matrix c) (add-one r) ∙ taken-next p l matrix c r in
+      let place : depth * k ≡ length before = ap (λ (n : ℕ). depth * n) e ∙ sym (length-taken p l matrix c r) in
+      let long : length before + length here ≡ depth * rank p l c (r + 1)
+      = sym (length-append before here) ∙ ap length (sym more) ∙ length-taken p l matrix c (r + 1) in
+      let most : depth * rank p l c (r + 1) ≤ depth * dataTotal p l = mul-le-mul-left depth (rank-most p l c (r + 1) inside (omega arith)) in
+      let fits : length before + length here ≤ length out = omega (arith, long, most, data-bits p l range sound, s .whole) in
+      record {
+        whole = length-sets out (depth * k) here ∙ s .whole;
+        first =
+            rw (place, more, length-append before here)
+            (take-sets out here (length before) fits ∙ ap (λ (x : List ℕ). x ++ here) (s .first));
+      }
 
--- ---- the bits of a column
+  -- the column c is sampled
+  pub sampled-column : {c : ℕ} → SampledTo p l matrix out c (rows p) → SampledTo p l matrix out (c + 1) 0
+  sampled-column {c} s = record { whole = s .whole; first = rw (add-one c, ← (taken-column p l matrix c)) (s .first) }
 
--- of no rows there are none
-pub column-start : (p : Params) (l matrix : List ℕ) (c : ℕ) → columnBits p l matrix c 0 ≡ []
-unfolding joinFrom
-column-start p l matrix c = refl
-
--- each row adds its module's
-pub column-next : (p : Params) (l matrix : List ℕ) (c r : ℕ)
-    → columnBits p l matrix c (r + 1) ≡ columnBits p l matrix c r ++ bitsAt p l matrix c r
-column-next p l matrix c r = rw (add-one r) (join-snoc (λ y. bitsAt p l matrix c y) 0 r ∙ rw (zero-add r))
-
--- each column adds its bits to those sampled before it
-pub taken-more : (p : Params) (l matrix : List ℕ) (c : ℕ)
-    → taken p l matrix (c + 1) 0 ≡ taken p l matrix c 0 ++ columnBits p l matrix c (rows p)
-unfolding taken
-taken-more p l matrix c =
-    let before : List ℕ = joinFrom 0 c (λ x. columnBits p l matrix x (rows p)) in
-    let column : List ℕ = columnBits p l matrix c (rows p) in
-    let none : before ++ columnBits p l matrix c 0 ≡ before = ap (λ (x : List ℕ). before ++ x) (column-start p l matrix c) ∙ append-nil before in
-    ap (λ (n : ℕ). taken p l matrix n 0) (add-one c) ∙ sym (taken-column p l matrix c) ∙ ap (λ (x : List ℕ). x ++ column) (sym none)
-
--- ---- the walk of a sampling
-
--- Down column c, before which k data modules stand: the bits of its first r rows are stored behind those of the columns before.
-pub record ColumnTo (p : Params) (l matrix o : List ℕ) (c k : ℕ) (out : List ℕ) (r next : ℕ) : Type 0 where
-  pub ranked : next ≡ rank p l c r
-  pub past : bitsPerModule (p .colours) * next ≡ bitsPerModule (p .colours) * k + length (columnBits p l matrix c r)
-  pub stored : out ≡ sets o (bitsPerModule (p .colours) * k) (columnBits p l matrix c r)
-
--- the buffer keeps its length
-pub column-length : {p : Params} {l matrix o : List ℕ} {c k : ℕ} {out : List ℕ} {r next : ℕ}
-    → ColumnTo p l matrix o c k out r next
-    → length out ≡ length o
-column-length {p} {l} {matrix} {o} {c} {k} {r = r} w =
-    ap length (w .stored) ∙ length-sets o (bitsPerModule (p .colours) * k) (columnBits p l matrix c r)
-
-pub to-first-row : (p : Params) (l matrix o : List ℕ) (c k : ℕ) → k ≡ rank p l c 0 → ColumnTo p l matrix o c k o 0 k
-unfolding joinFrom
-to-first-row p l matrix o c k e = record { ranked = e; past = omega arith; stored = refl }
-
-pub to-next-row : {p : Params} {l matrix o : List ℕ} {c k : ℕ} {out : List ℕ} {r next : ℕ} → ColumnTo p l matrix o c k out r next
-    → (out' : List ℕ) (next' : ℕ)
-    → next' ≡ rank p l c (r + 1)
-    → out' ≡ sets out (bitsPerModule (p .colours) * next) (bitsAt p l matrix c r)
-    → ColumnTo p l matrix o c k out' (r + 1) next'
-to-next-row {p} {l} {matrix} {o} {c} {k} {out} {r} {next} w out' next' en eo =
-    let depth : ℕ = bitsPerModule (p .colours) in
-    let some : List ℕ = columnBits p l matrix c r in
-    let more : List ℕ = bitsAt p l matrix c r in
-    let one : ℕ = tally (isData (cellAt p l c r)) in
-    let grown : next' ≡ next + one = en ∙ ap (rank p l c) (add-one r) ∙ rank-next p l c r ∙ ap (λ (n : ℕ). n + one) (sym (w .ranked)) in
-    let whole : columnBits p l matrix c (r + 1) ≡ some ++ more = column-next p l matrix c r in
-    let place : depth * next' ≡ depth * next + depth * one = ap (λ (n : ℕ). depth * n) grown ∙ mul-add depth next one in
-    record {
-      ranked = en;
-      past = omega (arith, place, w .past, ap length whole, length-append some more, length-module p l matrix c r);
-      stored = eo ∙ rw (w .past, w .stored, sets-join o some more (depth * k), whole);
-    }
-
--- From column to column: the bits of the columns before c are stored.
-pub record SampledTo (p : Params) (l matrix o out : List ℕ) (c k : ℕ) : Type 0 where
-  pub ranked : k ≡ rank p l c 0
-  pub stored : out ≡ sets o 0 (taken p l matrix c 0)
-
-pub sampled-length : {p : Params} {l matrix o out : List ℕ} {c k : ℕ} → SampledTo p l matrix o out c k → length out ≡ length o
-sampled-length {p} {l} {matrix} {o} {c = c} w = ap length (w .stored) ∙ length-sets o 0 (taken p l matrix c 0)
-
-pub to-first-column : (p : Params) (l matrix o : List ℕ) → SampledTo p l matrix o o 0 0
-to-first-column p l matrix o = record { ranked = sym (rank-first p l); stored = rw (taken-first p l matrix) }
-
-pub to-next-column : {p : Params} {l matrix o out : List ℕ} {c k : ℕ} → SampledTo p l matrix o out c k
-    → (out' : List ℕ) (next : ℕ)
-    → next ≡ rank p l (c + 1) 0
-    → out' ≡ sets out (bitsPerModule (p .colours) * k) (columnBits p l matrix c (rows p))
-    → SampledTo p l matrix o out' (c + 1) next
-to-next-column {p} {l} {matrix} {o} {out} {c} {k} w out' next en eo =
-    let depth : ℕ = bitsPerModule (p .colours) in
-    let before : List ℕ = taken p l matrix c 0 in
-    let column : List ℕ = columnBits p l matrix c (rows p) in
-    let place : depth * k ≡ 0 + length before = ap (λ (n : ℕ). depth * n) (w .ranked) ∙ sym (length-taken p l matrix c 0) ∙ sym (zero-add (length before)) in
-    record {
-      ranked = en;
-      stored = eo ∙ rw (place, w .stored, sets-join o before column 0, taken-more p l matrix c);
-    }
-
--- past the last column all bits are sampled
-pub all-sampled : {p : Params} {l matrix o out : List ℕ} {c k : ℕ} → SampledTo p l matrix o out c k → c ≡ columns p
-    → inRange p ≡ true
-    → listVerdict p l ≡ Sound
-    → length o ≡ sizesFor p l .capacity
-    → out ≡ sampled p l matrix
-all-sampled {p} {l} {matrix} {o} {out} {c} {k} w e range sound size =
-    let long : length (sampled p l matrix) ≡ length o = length-sampled p l matrix ∙ data-bits p l range sound ∙ sym size in
-    w .stored ∙ rw (e, taken-last p l matrix) (sets-whole o (sampled p l matrix) long)
+  -- all columns are sampled
+  pub sampled-all : SampledTo p l matrix out (columns p) 0 → inRange p ≡ true → listVerdict p l ≡ Sound → out ≡ sampled p l matrix
+  sampled-all s range sound =
+      let long : length (sampled p l matrix) ≡ length out = length-sampled p l matrix ∙ data-bits p l range sound ∙ sym (s .whole) in
+      sym (take-length out) ∙ rw (← long, ← (taken-last p l matrix)) (s .first)

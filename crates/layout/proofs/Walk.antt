@@ -26,7 +26,7 @@ use Rattle.laws.proofs.Placement.{bits-inside}
 use Rattle.laws.proofs.Sizes.{data-bits}
 use Rattle.patterns.specs.declared.SideCores.{SideCores}
 use Rattle.patterns.specs.Cores.{coresFor}
-use Rattle.layout.specs.Walk.{LegalSymbol, AtModule}
+use Rattle.layout.specs.Walk.{SizedSymbol, AtModule}
 
 -- a cell that holds data, and one that does not
 data-cell : {z : Cell} → z ≡ Data → isData z ≡ true
@@ -128,7 +128,7 @@ module _ {p : Params} {l : List ℕ} {cores : SideCores} {size modules c r k : �
       }
 
 -- the walk at the first module of a column
-pub at-column : {p : Params} {l : List ℕ} {size modules : ℕ} → LegalSymbol p l size modules
+pub at-column : {p : Params} {l : List ℕ} {size modules : ℕ} → SizedSymbol p l size modules
     → (cores : SideCores) (size' modules' c k : ℕ)
     → cores ≡ coresFor p
     → size' ≡ size

@@ -6,29 +6,28 @@ use mathlib.Core.Path.{_≡_}
 use mathlib.Core.Bool.{true}
 use mathlib.Core.List.{List}
 use mathlib.Core.Logic.{_⊎_}
-use lib.ListN.{length, getD}
+use lib.ListN.{length, getD, take}
 use Rattle.symbology.specs.declared.Params.{Params}
 use Rattle.symbology.specs.declared.ListVerdict.the-variants.{Sound}
-use Rattle.symbology.specs.Ranges.{joinFrom}
 use Rattle.symbology.specs.Parameters.{inRange}
 use Rattle.symbology.specs.Sides.{columns, rows}
 use Rattle.symbology.specs.Reserved.{listVerdict}
-use Rattle.symbology.specs.Placement.{rank, moduleAt, bitsAt}
+use Rattle.symbology.specs.Placement.{rank, moduleAt, taken}
 use Rattle.symbology.specs.Tests.{sizesFor}
 use Rattle.patterns.specs.declared.SideCores.{SideCores}
 use Rattle.patterns.specs.Cores.{coresFor}
 
 -- parameters and list pass the tests 1 and 2, there are C bits, and the matrix has so many modules
-pub record LegalSymbol (p : Params) (l : List ℕ) (bits modules : ℕ) : Type 0 where
+pub record SizedSymbol (p : Params) (l : List ℕ) (bits modules : ℕ) : Type 0 where
   pub in-range : inRange p ≡ true
   pub sound : listVerdict p l ≡ Sound
   pub all-bits : bits ≡ sizesFor p l .capacity
   pub all-modules : modules ≡ rows p * columns p
 
--- The walk stands at the module (c, r) of a legal symbol, or below the last of column c, with k data modules before it. The rows of
+-- The walk stands at the module (c, r) of a symbol, or below the last of column c, with k data modules before it. The rows of
 -- Table 2 are kept.
 pub record AtModule (p : Params) (l : List ℕ) (cores : SideCores) (bits modules c r k : ℕ) : Type 0 where
-  pub symbol : LegalSymbol p l bits modules
+  pub symbol : SizedSymbol p l bits modules
   pub kept : cores ≡ coresFor p
   pub column : c < columns p
   pub row : r ≤ rows p
@@ -46,6 +45,7 @@ pub record FilledTo (p : Params) (l bs matrix : List ℕ) (c r : ℕ) : Type 0 w
       → Before (i % columns p) (i / columns p) c r
       → getD matrix i 0 ≡ moduleAt p l bs (i % columns p) (i / columns p)
 
--- the bits of the first n rows of column c of a matrix
-abbrev pub columnBits : Params → List ℕ → List ℕ → ℕ → ℕ → List ℕ
-columnBits p l matrix c n = joinFrom 0 n (λ r. bitsAt p l matrix c r)
+-- the first bits of the list are those sampled before (c, r)
+pub record SampledTo (p : Params) (l matrix out : List ℕ) (c r : ℕ) : Type 0 where
+  pub whole : length out ≡ sizesFor p l .capacity
+  pub first : take (length (taken p l matrix c r)) out ≡ taken p l matrix c r

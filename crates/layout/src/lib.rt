@@ -1,11 +1,12 @@
 // The matrix of a symbol: what each module holds, the masks, filling a matrix with the C bits and
 // sampling them from one.
 //
-// `fill` and `sample` serve the calls above and ask for what those have tested; `first_bad_module` is
+// `fill` and `sample` serve the crates above and ask for what those have tested; `first_bad_module` is
 // test 7. Filling and sampling pass the modules once, column by column, with a count of the data
-// modules passed. For each module they look through the reserved list: with the 24 entries of a
-// small symbol that is some ten thousand comparisons, and never more than 3.3 million, since no
-// symbol that passes test 3 has more than 3,185 modules and no list more than 1,024 entries.
+// modules passed; test 7 is a pass of its own. For each module, filling and sampling look through the
+// reserved list: with the 24 entries of a small symbol that is some ten thousand comparisons, and
+// where test 3 is passed never more than 3.3 million, since no such symbol has more than 3,185
+// modules and no list more than 1,024 entries.
 use patterns::SideCores;
 use symbology::Cell;
 use symbology::Params;
@@ -16,7 +17,7 @@ ghost use mathlib.Core.Bool.{true};
 ghost use lib.ListN.{length, getD, take, drop, set};
 ghost use lib.Seq.{sets};
 ghost use Rattle.patterns.specs.Cores.{coresFor};
-ghost use Rattle.layout.specs.Walk.{LegalSymbol, AtModule, FilledTo, columnBits};
+ghost use Rattle.layout.specs.Walk.{SizedSymbol, AtModule, FilledTo, SampledTo};
 ghost use Rattle.symbology.specs.Bits.{value, bits};
 ghost use Rattle.symbology.specs.Parameters.{inRange};
 ghost use Rattle.symbology.specs.Sides.{columns, rows};
@@ -25,6 +26,7 @@ ghost use Rattle.symbology.specs.Reserved.{listVerdict};
 ghost use Rattle.symbology.specs.declared.ListVerdict.the-variants.{Sound};
 ghost use Rattle.symbology.specs.Placement.{patternCell, cellAt, rank, maskGenerators, maskAt, moduleAt, filled, bitsAt, sampled, firstBadModule};
 
+// A parameter as an index; the cast of a function's own parameter asks for no proof of its range.
 fn wide(n: u32) -> usize
     ensures { λ r. ⌜ r ≡ n ⌝ }
 {
@@ -123,6 +125,7 @@ fn mask_at(p: Params, c: usize, r: usize) -> u8
 
 // ---- bits, one to a byte, the first bit of a module the highest
 
+// The number that n bits write. `left` of them are not read yet.
 fn bits_value(bits: &[u8], at: usize, n: usize) -> u8
     requires { ⌜ (at + n ≤ length (now bits)) × (n ≤ 8) ⌝ }
     ensures { λ r. ⌜ r ≡ value (take n (drop at (now (bits .entry)))) ⌝ }
@@ -136,6 +139,7 @@ fn bits_value(bits: &[u8], at: usize, n: usize) -> u8
     v
 }
 
+// Stores the n lowest bits of a number, from the last to the first.
 fn put_bits(out: &mut [u8], at: usize, n: usize, v: u8)
     requires { ⌜ at + n ≤ length (now out) ⌝ }
     ensures { λ _. ⌜ now (out .exit) ≡ sets (now (out .entry)) at (bits n v) ⌝ }
@@ -153,7 +157,7 @@ fn put_bits(out: &mut [u8], at: usize, n: usize, v: u8)
 
 // Stores the module (c, r), before which k data modules stand, and answers how many stand before the
 // module below it.
-fn put_module(
+fn fill_module(
     p: Params,
     list: &[u16],
     cores: SideCores,
@@ -167,13 +171,14 @@ fn put_module(
     ensures { λ next. ⌜ (next ≡ rank p (now (list .entry)) c (r + 1)) × (now (matrix .exit) ≡ set (now (matrix .entry)) (r * columns p + c) (moduleAt p (now (list .entry)) (now (bits .entry)) c r)) ⌝ }
 {
     let at = index_of(p, c, r);
+    let mask = mask_at(p, c, r);
     let cell = cell_at(p, list, cores, c, r);
     if let Cell::Fixed(colour) = cell {
         matrix[at] = colour;
         return k;
     }
     let depth = depth_of(p);
-    matrix[at] = bits_value(bits, depth * k, depth) ^ mask_at(p, c, r);
+    matrix[at] = bits_value(bits, depth * k, depth) ^ mask;
     k + 1
 }
 
@@ -194,7 +199,7 @@ fn fill_column(
     let mut next = k;
     let mut r = 0;
     while r < height {
-        next = put_module(p, list, cores, bits, matrix, c, r, next);
+        next = fill_module(p, list, cores, bits, matrix, c, r, next);
         r += 1;
     }
     next
@@ -202,7 +207,7 @@ fn fill_column(
 
 // Fills the whole matrix: patterns, list entries, and the C bits in the data modules, masked.
 pub fn fill(p: Params, list: &[u16], bits: &[u8], matrix: &mut [u8])
-    requires { ⌜ LegalSymbol p (now list) (length (now bits)) (length (now matrix)) ⌝ }
+    requires { ⌜ SizedSymbol p (now list) (length (now bits)) (length (now matrix)) ⌝ }
     ensures { λ _. ⌜ now (matrix .exit) ≡ filled p (now (list .entry)) (now (bits .entry)) ⌝ }
 {
     let cores = patterns::side_cores(p);
@@ -219,7 +224,7 @@ pub fn fill(p: Params, list: &[u16], bits: &[u8], matrix: &mut [u8])
 
 // Stores the bits of the module (c, r), before which k data modules stand, and answers how many stand
 // before the module below it.
-fn take_module(
+fn sample_module(
     p: Params,
     list: &[u16],
     cores: SideCores,
@@ -253,14 +258,14 @@ fn sample_column(
     c: usize,
     k: usize,
 ) -> usize
-    requires { ⌜ AtModule p (now list) cores (length (now out)) (length (now matrix)) c 0 k ⌝ }
-    ensures { λ next. ⌜ (next ≡ rank p (now (list .entry)) (c + 1) 0) × (now (out .exit) ≡ sets (now (out .entry)) (bitsPerModule (p .colours) * k) (columnBits p (now (list .entry)) (now (matrix .entry)) c (rows p))) ⌝ }
+    requires { ⌜ AtModule p (now list) cores (length (now out)) (length (now matrix)) c 0 k × SampledTo p (now list) (now matrix) (now out) c 0 ⌝ }
+    ensures { λ next. ⌜ (next ≡ rank p (now (list .entry)) (c + 1) 0) × SampledTo p (now (list .entry)) (now (matrix .entry)) (now (out .exit)) (c + 1) 0 ⌝ }
 {
     let height = rows_of(p);
     let mut next = k;
     let mut r = 0;
     while r < height {
-        next = take_module(p, list, cores, matrix, out, c, r, next);
+        next = sample_module(p, list, cores, matrix, out, c, r, next);
         r += 1;
     }
     next
@@ -269,7 +274,7 @@ fn sample_column(
 // Samples the C bits of a matrix, one to a byte, the mask undone. Whatever the modules hold is taken;
 // that each is a colour index is test 7.
 pub fn sample(p: Params, list: &[u16], matrix: &[u8], out: &mut [u8])
-    requires { ⌜ LegalSymbol p (now list) (length (now out)) (length (now matrix)) ⌝ }
+    requires { ⌜ SizedSymbol p (now list) (length (now out)) (length (now matrix)) ⌝ }
     ensures { λ _. ⌜ now (out .exit) ≡ sampled p (now (list .entry)) (now (matrix .entry)) ⌝ }
 {
     let cores = patterns::side_cores(p);

@@ -1,14 +1,14 @@
 // The finder and alignment patterns: which colour they give a module. `pattern_colour` is the way
 // in, with the rows of Table 2 from `side_cores`; the others follow its definition, one function for
-// each.
+// each. A module costs at most 18 comparisons with core coordinates.
 use symbology::Near;
 use symbology::Params;
 use symbology::Pattern;
 use symbology::PatternColour;
 use tables::CoreRow;
-ghost use Prim.Native.Nat.{_+_, _≤_, _<_, max};
+ghost use Prim.Native.Nat.{_+_, _%_, _≤_, _<_, max};
 ghost use mathlib.Core.Path.{_≡_};
-ghost use mathlib.Core.Bool.{true, _&&_, _||_};
+ghost use mathlib.Core.Bool.{true, cond, not, _&&_, _||_};
 ghost use lib.Dec.{leb, eqb};
 ghost use lib.ListN.{length, take};
 ghost use Rattle.patterns.specs.Cores.{coresFor};
@@ -32,6 +32,7 @@ pub fn side_cores(p: Params) -> SideCores
     }
 }
 
+// A byte as an index; the cast of a parameter asks for no proof of its range.
 fn wide(b: u8) -> usize
     ensures { λ r. ⌜ (r ≡ b) × (r < 256) ⌝ }
 {
@@ -49,6 +50,8 @@ fn is_near(core: usize, x: usize) -> bool
     x <= core + 2
 }
 
+// How a coordinate stands to the cores of its side: the number of the core that is near and the offset
+// x + 2 - core, which is 2 on the core.
 fn near_core(cores: CoreRow, x: usize) -> Near
     requires { ⌜ (cores .len ≤ 9) × (length (cores .at) ≡ 9) × (x < 65536) ⌝ }
     ensures { λ r. ⌜ r ≡ nearCore 0 (take (cores .len) (cores .at)) x ⌝ }
@@ -67,6 +70,7 @@ fn near_core(cores: CoreRow, x: usize) -> Near
 
 // ---- the patterns
 
+// The finder pattern of a corner, by its place.
 fn finder_at(left: bool, upper: bool) -> Pattern
     ensures { λ r. ⌜ r ≡ finder left upper ⌝ }
 {
@@ -102,6 +106,7 @@ fn finder_at(left: bool, upper: bool) -> Pattern
     }
 }
 
+// U in the upper corners of a secondary symbol, L in the lower ones.
 fn corner_alignment(upper: bool) -> Pattern
     ensures { λ r. ⌜ r ≡ cornerAlignment upper ⌝ }
 {
@@ -113,21 +118,24 @@ fn corner_alignment(upper: bool) -> Pattern
     }
 }
 
+// The inner pattern at core numbers i and j lies as UL: X1 at turn 0, X0 at turn 1.
+fn lies_as_ul(turn: u32, i: usize, j: usize) -> bool
+    requires { ⌜ (i < 256) × (j < 256) ⌝ }
+    ensures { λ r. ⌜ r ≡ cond (eqb ((i + j) % 2) 1) (eqb turn 0) (not (eqb turn 0)) ⌝ }
+{
+    if (i + j) % 2 == 1 {
+        return turn == 0;
+    }
+    turn != 0
+}
+
 fn inner_alignment(turn: u32, i: usize, j: usize) -> Pattern
     requires { ⌜ (i < 256) × (j < 256) ⌝ }
     ensures { λ r. ⌜ r ≡ innerAlignment turn i j ⌝ }
 {
-    if (i + j) % 2 == 1 {
-        return Pattern {
-            reach: 1,
-            falling: turn == 0,
-            core: PatternColour::Yellow,
-            ring: PatternColour::Cyan,
-        };
-    }
     Pattern {
         reach: 1,
-        falling: turn != 0,
+        falling: lies_as_ul(turn, i, j),
         core: PatternColour::Yellow,
         ring: PatternColour::Cyan,
     }
@@ -144,6 +152,7 @@ fn is_outer(i: usize, n: usize) -> bool
     i + 1 == n
 }
 
+// The pattern at core number i of p across and j of q down.
 fn pattern_of(kind: u32, turn: u32, p: usize, q: usize, i: usize, j: usize) -> Pattern
     requires { ⌜ (i < 256) × (j < 256) ⌝ }
     ensures { λ r. ⌜ r ≡ patternOf kind turn p q i j ⌝ }
@@ -162,6 +171,7 @@ fn pattern_of(kind: u32, turn: u32, p: usize, q: usize, i: usize, j: usize) -> P
 
 // ---- the modules of a pattern
 
+// The distance of an offset from the core.
 fn off_core(o: usize) -> usize
     ensures { λ r. ⌜ r ≡ offCore o ⌝ }
 {
@@ -180,6 +190,7 @@ fn larger(a: usize, b: usize) -> usize
     a
 }
 
+// On the sides of the core where the two squares lie.
 fn in_squares(falling: bool, o: usize, u: usize) -> bool
     ensures { λ r. ⌜ r ≡ inSquares falling o u ⌝ }
 {
@@ -201,6 +212,7 @@ fn in_squares(falling: bool, o: usize, u: usize) -> bool
     falling
 }
 
+// The colour of a pattern at an offset across and one down: by the larger distance from the core.
 fn colour_in(s: Pattern, o: usize, u: usize) -> PatternColour
     ensures { λ r. ⌜ r ≡ colourIn s o u ⌝ }
 {

@@ -19,7 +19,7 @@ pub mod Stream
 pub mod Net
 pub mod Placement
 pub mod Tests
-pub mod Sizes
+pub mod SizesAnswer
 pub mod Write
 pub mod Read
 pub mod Mending

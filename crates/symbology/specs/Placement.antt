@@ -3,7 +3,7 @@
 -- Assumes nothing.
 use Prim.Native.Nat.{ℕ, _+_, _*_, _/_, _%_}
 use mathlib.Core.Bool.{Bool, true, false, cond}
-use mathlib.Core.List.{List, [], _∷_}
+use mathlib.Core.List.{List, [], _∷_, _++_}
 use lib.ListN.{length, getD, take, drop}
 use lib.Dec.{leb, ltb}
 use lib.Bits.{bitXor}
@@ -105,6 +105,10 @@ bitsAt p l matrix c r =
 -- the bits of a sampled matrix, column by column from the left, each downwards
 unfoldable pub sampled : Params → List ℕ → List ℕ → List ℕ
 sampled p l matrix = joinFrom 0 (columns p) (λ c. joinFrom 0 (rows p) (λ r. bitsAt p l matrix c r))
+
+-- the bits sampled before the module (c, r)
+unfoldable pub taken : Params → List ℕ → List ℕ → ℕ → ℕ → List ℕ
+taken p l matrix c r = joinFrom 0 c (λ x. joinFrom 0 (rows p) (λ y. bitsAt p l matrix x y)) ++ joinFrom 0 r (λ y. bitsAt p l matrix c y)
 
 -- test 7: the first module of N or more, and the matrix's length where there is none
 unfoldable pub firstBadModule : ℕ → List ℕ → ℕ

@@ -4,7 +4,8 @@ use mathlib.Core.Bool.{true, and-true}
 use borrow.Author.Tests.{lt-ltb, le-ltb}
 use Rattle.symbology.specs.Ranges.{within, allHold}
 use Rattle.symbology.specs.Parameters.{rangeTests}
-use Rattle.capacity.proofs.Groups.{one-fails, refused, passed, codeTests}
+use Rattle.capacity.specs.Groups.{codeTests}
+use Rattle.capacity.proofs.Groups.{one-fails, refused, passed}
 use borrow.Author.Needs.{needs}
 use Rattle.capacity.proofs.code_in_range.Statement.{statement}
 use Rattle.capacity.proofs.code_in_range.Tie as tie

@@ -5,7 +5,8 @@ use lib.Dec.{eqb}
 use borrow.Author.Tests.{lt-ltb, le-ltb, eq-eqb, ne-eqb}
 use Rattle.symbology.specs.Ranges.{allHold}
 use Rattle.symbology.specs.Parameters.{rangeTests}
-use Rattle.capacity.proofs.Groups.{one-fails, refused, passed, colourTests}
+use Rattle.capacity.specs.Groups.{colourTests}
+use Rattle.capacity.proofs.Groups.{one-fails, refused, passed}
 use borrow.Author.Needs.{needs}
 use Rattle.capacity.proofs.colours_in_range.Statement.{statement}
 use Rattle.capacity.proofs.colours_in_range.Tie as tie

@@ -36,20 +36,20 @@ mul-all c = omega (arith, all-most c)
 inner-patterns-requires : tie.Need-inner-patterns-requires
 inner-patterns-requires c κs = omega (arith, known (c .before .before .before .before), c .before .before .before .wide .ensures, c .before .before .wide2 .ensures)
 
-mul-less : tie.Need-mul-less
-mul-less c = search needs
+mul-saturating-sub : tie.Need-mul-saturating-sub
+mul-saturating-sub c = search needs
 
 corner-modules-requires : tie.Need-corner-modules-requires
 corner-modules-requires c κs = search needs
 
-add-less : tie.Need-add-less
-add-less c = search needs
+add-saturating-sub : tie.Need-add-saturating-sub
+add-saturating-sub c = search needs
 
-less-requires : tie.Need-less-requires
-less-requires c κs = search needs
+saturating-sub-requires : tie.Need-saturating-sub-requires
+saturating-sub-requires c κs = search needs
 
-less-requires-2 : tie.Need-less-requires-2
-less-requires-2 c κs = search needs
+saturating-sub-requires-2 : tie.Need-saturating-sub-requires-2
+saturating-sub-requires-2 c κs = search needs
 
 cast-t11 : tie.Need-cast-t11
 cast-t11 c = omega (arith, all-most (c .before .before .before .before))
@@ -64,12 +64,12 @@ returns c =
     let inner = c .before .before .before .inner-patterns in
     let corner = c .before .before .corner-modules in (
       modules-are (args .p .kind) (args .p .horizontal) (args .p .vertical) (args .listed)
-          (across .result) (down .result) (inner .result) (corner .result) (c .less2 .result)
+          (across .result) (down .result) (inner .result) (corner .result) (c .saturating-sub2 .result)
           (across .ensures .0 ∙ ap sideSize h-is)
           (down .ensures .0 ∙ ap sideSize v-is)
           (inner .ensures .0 ∙ ap₂ innerPatterns h-is v-is)
           (corner .ensures .0)
-          (c .less2 .ensures ∙ ap (λ (n : ℕ). n - args .listed) (c .before .less .ensures)),
+          (c .saturating-sub2 .ensures ∙ ap (λ (n : ℕ). n - args .listed) (c .before .saturating-sub .ensures)),
       omega (arith, all-most (c .before .before .before .before)),
     )
 
@@ -83,10 +83,10 @@ data-modules-spec =
     side-size-requires-2
     mul-all
     inner-patterns-requires
-    mul-less
+    mul-saturating-sub
     corner-modules-requires
-    add-less
-    less-requires
-    less-requires-2
+    add-saturating-sub
+    saturating-sub-requires
+    saturating-sub-requires-2
     cast-t11
     returns)

@@ -3,7 +3,8 @@ use mathlib.Core.Path.{sym, _∙_}
 use Prim.Native.Nat.{_/_}
 use lib.ListN.{length}
 use native.Mathlib.Omega.{arith}
-use Rattle.capacity.proofs.Refusals.{range-passed, front-first, not-the-matrix, no-room, front-none, area-small}
+use Rattle.capacity.proofs.Bounds.{area-small}
+use Rattle.capacity.proofs.Refusals.{range-passed, front-first, not-the-matrix, no-room, front-none}
 use borrow.Author.Needs.{needs}
 use Rattle.capacity.proofs.front_tests.Statement.{statement}
 use Rattle.capacity.proofs.front_tests.Tie as tie

@@ -3,7 +3,8 @@ use mathlib.Core.Path.{_≡_}
 use mathlib.Core.Bool.{true, and-true}
 use Rattle.symbology.specs.Ranges.{within, allHold}
 use Rattle.symbology.specs.Parameters.{rangeTests}
-use Rattle.capacity.proofs.Groups.{one-fails, refused, passed, sideTests}
+use Rattle.capacity.specs.Groups.{sideTests}
+use Rattle.capacity.proofs.Groups.{one-fails, refused, passed}
 use borrow.Author.Needs.{needs}
 use Rattle.capacity.proofs.sides_in_range.Statement.{statement}
 use Rattle.capacity.proofs.sides_in_range.Tie as tie

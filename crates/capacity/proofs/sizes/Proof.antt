@@ -1,7 +1,7 @@
 -- `capacity::sizes` meets its contract. Assumes nothing.
 use mathlib.Core.Path.{sym, ap, _∙_}
 use Rattle.symbology.specs.Tests.{sizesFor}
-use Rattle.symbology.specs.Sizes.{noSizes, theSizes, sizesAnswer}
+use Rattle.symbology.specs.SizesAnswer.{noSizes, theSizes, sizesAnswer}
 use Rattle.capacity.proofs.Refusals.{same-refusal, no-refusal, range-passed}
 use borrow.Author.Needs.{needs}
 use Rattle.capacity.proofs.sizes.Statement.{statement}

@@ -7,7 +7,7 @@ use Rattle.symbology.specs.Sides.{sideSize}
 use Rattle.symbology.specs.Capacity.{asBits}
 use Rattle.laws.proofs.Parameters.{InRange, ranges}
 use Rattle.capacity.proofs.Bounds.{bits-most, Products, products-most}
-use Rattle.capacity.proofs.Counts.{capacity-is, sizes-are}
+use Rattle.capacity.proofs.Counts.{capacity-of, sizes-are}
 use borrow.Author.Needs.{needs}
 use Rattle.capacity.proofs.sizes_of.Statement.{statement}
 use Rattle.capacity.proofs.sizes_of.Tie as tie
@@ -111,7 +111,7 @@ returns c =
     (across .ensures .0 ∙ ap sideSize (c .before .before .before .before .wide4 .ensures))
     (down .ensures .0 ∙ ap sideSize (c .before .before .wide5 .ensures))
     (c .wide6 .ensures ∙ d .ensures .0)
-    (capacity-is p listed (m .result) (d .result) (b .result) (n .result) (m .ensures .0) (d .ensures .0) (b .ensures) (n .ensures))
+    (capacity-of p listed (m .result) (d .result) (b .result) (n .result) (m .ensures .0) (d .ensures .0) (b .ensures) (n .ensures))
     (wc .ensures)
     (wr .ensures)
 

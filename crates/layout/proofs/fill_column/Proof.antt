@@ -24,8 +24,8 @@ rows-of-requires c κs = c .before .before .before .pre .0 .symbol .in-range
 loop-holds : tie.Need-loop-holds Inv-loop μ-loop
 loop-holds c = (omega arith, c .before .before .before .before .pre .0 .ranked, c .before .before .before .before .pre .1)
 
-put-module-requires : tie.Need-put-module-requires Inv-loop μ-loop
-put-module-requires c κs =
+fill-module-requires : tie.Need-fill-module-requires Inv-loop μ-loop
+fill-module-requires c κs =
     let i = c .before .before .loop .inv in
     let h : c .before .before .loop .r < rows (c .before .before .before .before .before .before .before .args .p) = omega (arith, c .before .before .before .rows-of .ensures .0) in
     (moved (c .before .before .before .before .before .before .before .pre .0) _ _ (c .before .before .loop .r) (c .before .before .loop .next) refl (i .2 .whole ∙ sym (c .before .before .before .before .before .before .before .pre .1 .whole)) (i .0) (i .1), h)
@@ -40,7 +40,7 @@ loop-again : tie.Need-loop-again Inv-loop μ-loop
 loop-again c =
     let i = c .before .before .before .before .before .loop .inv in
     let h : c .before .before .before .before .before .loop .r < rows (c .before .before .before .before .before .before .before .before .before .before .args .p) = omega (arith, c .before .before .before .before .before .before .rows-of .ensures .0) in
-    (omega arith, c .before .before .put-module .ensures .0, rw (c .before .before .put-module .ensures .1) (filled-next (i .2) (c .before .before .before .before .before .before .before .before .before .before .pre .0 .column) h))
+    (omega arith, c .before .before .fill-module .ensures .0, rw (c .before .before .fill-module .ensures .1) (filled-next (i .2) (c .before .before .before .before .before .before .before .before .before .before .pre .0 .column) h))
 
 same-length : tie.Need-same-length Inv-loop μ-loop
 same-length c = c .before .loop .inv .2 .whole ∙ sym (c .before .before .before .before .before .before .pre .1 .whole)
@@ -60,7 +60,7 @@ fill-column-spec =
     μ-loop
     rows-of-requires
     loop-holds
-    put-module-requires
+    fill-module-requires
     add-r
     loop-less
     loop-again

@@ -7,12 +7,12 @@ use lib.ListN.{length, getD}
 use borrow.Author.Needs.{needs}
 use borrow.Author.Tests.{le-leb, lt-leb}
 use Rattle.symbology.specs.Placement.{firstBadModule}
-use Rattle.laws.proofs.Search.{Left, left-all, left-next, left-found, left-none}
+use Rattle.laws.proofs.Search.{SearchFrom, search-start, search-next, search-found, search-none}
 use Rattle.layout.proofs.first_bad_module.Statement.{statement}
 use Rattle.layout.proofs.first_bad_module.Tie as tie
 
 abbrev Inv-loop : tie.InvT-loop
-Inv-loop colours matrix n i₀ i = Left (λ k. leb colours (getD matrix k 0)) (length matrix) i
+Inv-loop colours matrix n i₀ i = SearchFrom (λ k. leb colours (getD matrix k 0)) (length matrix) i
 
 abbrev μ-loop : tie.MeasureT-loop
 μ-loop colours matrix n i₀ i = length matrix - i
@@ -21,7 +21,7 @@ wide-requires : tie.Need-wide-requires Inv-loop μ-loop
 wide-requires c κs = search needs
 
 loop-holds : tie.Need-loop-holds Inv-loop μ-loop
-loop-holds c = left-all (λ k. leb (c .before .before .args .colours) (getD (c .before .before .args .matrix .now) k 0)) (length (c .before .before .args .matrix .now))
+loop-holds c = search-start (λ k. leb (c .before .before .args .colours) (getD (c .before .before .args .matrix .now) k 0)) (length (c .before .before .args .matrix .now))
 
 shared-slice-read-if1 : tie.Need-shared-slice-read-if1 Inv-loop μ-loop
 shared-slice-read-if1 c = search needs
@@ -36,7 +36,7 @@ returns c =
     let m = a .matrix .now in
     let i : ℕ = c .before .before .before .loop .i in
     let bad : a .colours ≤ getD m i 0 = omega (arith, c .before .before .before .before .wide .ensures) in
-    sym (left-found (λ k. leb (a .colours) (getD m k 0)) (length m) i (c .before .before .before .loop .inv) (c .before .before .loop-test .taken) (le-leb (a .colours) (getD m i 0) bad))
+    sym (search-found (λ k. leb (a .colours) (getD m k 0)) (length m) i (c .before .before .before .loop .inv) (c .before .before .loop-test .taken) (le-leb (a .colours) (getD m i 0) bad))
 
 add-i : tie.Need-add-i Inv-loop μ-loop
 add-i c = search needs
@@ -50,14 +50,14 @@ loop-again c =
     let m = a .matrix .now in
     let i : ℕ = c .before .before .before .loop .i in
     let good : getD m i 0 < a .colours = omega (arith, c .before .before .before .before .wide .ensures) in
-    left-next (λ k. leb (a .colours) (getD m k 0)) (length m) i (c .before .before .before .loop .inv) (c .before .before .loop-test .taken) (lt-leb (a .colours) (getD m i 0) good)
+    search-next (λ k. leb (a .colours) (getD m k 0)) (length m) i (c .before .before .before .loop .inv) (c .before .before .loop-test .taken) (lt-leb (a .colours) (getD m i 0) good)
 
 returns-2 : tie.Need-returns-2 Inv-loop μ-loop
 unfolding firstBadModule
 returns-2 c =
     let a = c .before .before .before .before .args in
     let m = a .matrix .now in
-    sym (left-none (λ k. leb (a .colours) (getD m k 0)) (length m) (c .before .loop .i) (c .before .loop .inv) (c .loop-test .left))
+    sym (search-none (λ k. leb (a .colours) (getD m k 0)) (length m) (c .before .loop .i) (c .before .loop .inv) (c .loop-test .left))
 
 pub first-bad-module-spec : {M : Type 1} → statement M
 first-bad-module-spec =

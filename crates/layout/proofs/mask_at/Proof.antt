@@ -3,7 +3,8 @@ use Prim.Native.Nat.{_%_}
 use mathlib.Core.Path.{_≡_, ap₂}
 use native.Mathlib.Omega.{arith}
 use Rattle.symbology.specs.Placement.{maskAt}
-use Rattle.layout.proofs.Masks.{some-colours, mask-byte}
+use Rattle.laws.proofs.Parameters.{some-colours}
+use Rattle.layout.proofs.Masks.{mask-byte}
 use borrow.Author.Needs.{needs}
 use Rattle.layout.proofs.mask_at.Statement.{statement}
 use Rattle.layout.proofs.mask_at.Tie as tie

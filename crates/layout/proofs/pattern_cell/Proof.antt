@@ -1,8 +1,7 @@
 -- `layout::pattern_cell` meets its contract. Assumes nothing.
 use native.Mathlib.Omega.{arith}
 use Rattle.symbology.specs.Placement.{patternCell}
-use Rattle.laws.proofs.Parameters.{ranges}
-use Rattle.layout.proofs.Masks.{some-colours}
+use Rattle.laws.proofs.Parameters.{ranges, some-colours}
 use borrow.Author.Needs.{needs}
 use Rattle.layout.proofs.pattern_cell.Statement.{statement}
 use Rattle.layout.proofs.pattern_cell.Tie as tie

@@ -1,15 +1,18 @@
 -- `layout::sample` meets its contract: the invariant is how many columns are sampled. Assumes nothing.
 use Prim.Native.Nat.{_-_, _≤_, _<_}
-use mathlib.Core.Path.{_≡_, refl}
+use mathlib.Core.Path.{_≡_, _∙_, sym, refl}
 use native.Mathlib.Omega.{arith}
 use Rattle.symbology.specs.Sides.{columns}
+use Rattle.symbology.specs.Placement.{rank}
+use Rattle.laws.proofs.Ranks.{rank-first}
+use Rattle.layout.specs.Walk.{SampledTo}
 use Rattle.layout.proofs.Walk.{at-column}
-use Rattle.layout.proofs.Sampled.{SampledTo, sampled-length, to-first-column, to-next-column, all-sampled}
+use Rattle.layout.proofs.Sampled.{sampled-start, sampled-all}
 use Rattle.layout.proofs.sample.Statement.{statement}
 use Rattle.layout.proofs.sample.Tie as tie
 
 abbrev Inv-loop : tie.InvT-loop
-Inv-loop p list matrix out₀ cores width k₀ c₀ out k c = (c ≤ columns p) × SampledTo p list matrix out₀ out c k
+Inv-loop p list matrix out₀ cores width k₀ c₀ out k c = (c ≤ columns p) × (k ≡ rank p list c 0) × SampledTo p list matrix out c 0
 
 abbrev μ-loop : tie.MeasureT-loop
 μ-loop p list matrix out₀ cores width k₀ c₀ out k c = width - c
@@ -23,13 +26,13 @@ columns-of-requires c κs = c .before .before .before .before .pre .in-range
 loop-holds : tie.Need-loop-holds Inv-loop μ-loop
 loop-holds c =
     let a = c .before .before .before .before .before .args in
-    (omega arith, to-first-column (a .p) (a .list .now) (a .matrix .now) (a .out .now))
+    (omega arith, sym (rank-first (a .p) (a .list .now)), sampled-start (a .p) (a .list .now) (a .matrix .now) (a .out .now) (c .before .before .before .before .before .pre .all-bits))
 
 sample-column-requires : tie.Need-sample-column-requires Inv-loop μ-loop
 sample-column-requires c κs =
     let i = c .before .before .loop .inv in
     let h : c .before .before .loop .c < columns (c .before .before .before .before .before .before .before .before .args .p) = omega (arith, c .before .before .before .columns-of .ensures .0) in
-    at-column (c .before .before .before .before .before .before .before .before .pre) (c .before .before .before .before .side-cores .result) _ _ (c .before .before .loop .c) (c .before .before .loop .k) (c .before .before .before .before .side-cores .ensures) (sampled-length (i .1)) refl h (i .1 .ranked)
+    (at-column (c .before .before .before .before .before .before .before .before .pre) (c .before .before .before .before .side-cores .result) _ _ (c .before .before .loop .c) (c .before .before .loop .k) (c .before .before .before .before .side-cores .ensures) (i .2 .whole ∙ sym (c .before .before .before .before .before .before .before .before .pre .all-bits)) refl h (i .1), i .2)
 
 add-c : tie.Need-add-c Inv-loop μ-loop
 add-c c = omega arith
@@ -38,16 +41,16 @@ loop-less : tie.Need-loop-less Inv-loop μ-loop
 loop-less c = omega arith
 
 loop-again : tie.Need-loop-again Inv-loop μ-loop
-loop-again c = (omega (arith, c .before .before .before .before .before .before .columns-of .ensures .0), to-next-column (c .before .before .before .before .before .loop .inv .1) _ _ (c .before .before .sample-column .ensures .0) (c .before .before .sample-column .ensures .1))
+loop-again c = (omega (arith, c .before .before .before .before .before .before .columns-of .ensures .0), c .before .before .sample-column .ensures .0, c .before .before .sample-column .ensures .1)
 
 same-length : tie.Need-same-length Inv-loop μ-loop
-same-length c = sampled-length (c .before .loop .inv .1)
+same-length c = c .before .loop .inv .2 .whole ∙ sym (c .before .before .before .before .before .before .before .pre .all-bits)
 
 returns : tie.Need-returns Inv-loop μ-loop
 returns c =
     let i = c .before .loop .inv in
     let e : c .before .loop .c ≡ columns (c .before .before .before .before .before .before .before .args .p) = omega (arith, i .0, c .before .before .columns-of .ensures .0) in
-    all-sampled (i .1) e (c .before .before .before .before .before .before .before .pre .in-range) (c .before .before .before .before .before .before .before .pre .sound) (c .before .before .before .before .before .before .before .pre .all-bits)
+    sampled-all (rw e at (i .2)) (c .before .before .before .before .before .before .before .pre .in-range) (c .before .before .before .before .before .before .before .pre .sound)
 
 pub sample-spec : {M : Type 1} → statement M
 sample-spec =

@@ -1,34 +1,34 @@
 -- `layout::sample_column` meets its contract: the invariant is how far down the column the walk has come. Assumes nothing.
 use Prim.Native.Nat.{_-_, _≤_, _<_}
-use mathlib.Core.Path.{_≡_, _∙_, refl}
+use mathlib.Core.Path.{_≡_, _∙_, sym, refl}
 use native.Mathlib.Numerals.{add-one}
 use native.Mathlib.Omega.{arith}
 use Rattle.symbology.specs.Sides.{rows}
+use Rattle.symbology.specs.Placement.{rank}
 use Rattle.laws.proofs.Ranks.{rank-column}
+use Rattle.layout.specs.Walk.{SampledTo}
 use Rattle.layout.proofs.Walk.{moved}
-use Rattle.layout.proofs.Sampled.{ColumnTo, to-first-row, to-next-row, column-length}
+use Rattle.layout.proofs.Sampled.{sampled-next, sampled-column}
 use Rattle.layout.proofs.sample_column.Statement.{statement}
 use Rattle.layout.proofs.sample_column.Tie as tie
 
 abbrev Inv-loop : tie.InvT-loop
-Inv-loop p list cores matrix out₀ c k height next₀ r₀ out next r = (r ≤ rows p) × ColumnTo p list matrix out₀ c k out r next
+Inv-loop p list cores matrix out₀ c k height next₀ r₀ out next r = (r ≤ rows p) × (next ≡ rank p list c r) × SampledTo p list matrix out c r
 
 abbrev μ-loop : tie.MeasureT-loop
 μ-loop p list cores matrix out₀ c k height next₀ r₀ out next r = height - r
 
 rows-of-requires : tie.Need-rows-of-requires Inv-loop μ-loop
-rows-of-requires c κs = c .before .before .before .pre .symbol .in-range
+rows-of-requires c κs = c .before .before .before .pre .0 .symbol .in-range
 
 loop-holds : tie.Need-loop-holds Inv-loop μ-loop
-loop-holds c =
-    let a = c .before .before .before .before .args in
-    (omega arith, to-first-row (a .p) (a .list .now) (a .matrix .now) (a .out .now) (a .c) (a .k) (c .before .before .before .before .pre .ranked))
+loop-holds c = (omega arith, c .before .before .before .before .pre .0 .ranked, c .before .before .before .before .pre .1)
 
-take-module-requires : tie.Need-take-module-requires Inv-loop μ-loop
-take-module-requires c κs =
+sample-module-requires : tie.Need-sample-module-requires Inv-loop μ-loop
+sample-module-requires c κs =
     let i = c .before .before .loop .inv in
     let h : c .before .before .loop .r < rows (c .before .before .before .before .before .before .before .args .p) = omega (arith, c .before .before .before .rows-of .ensures .0) in
-    (moved (c .before .before .before .before .before .before .before .pre) _ _ (c .before .before .loop .r) (c .before .before .loop .next) (column-length (i .1)) refl (i .0) (i .1 .ranked), h)
+    (moved (c .before .before .before .before .before .before .before .pre .0) _ _ (c .before .before .loop .r) (c .before .before .loop .next) (i .2 .whole ∙ sym (c .before .before .before .before .before .before .before .pre .1 .whole)) refl (i .0) (i .1), h)
 
 add-r : tie.Need-add-r Inv-loop μ-loop
 add-r c = omega arith
@@ -39,17 +39,19 @@ loop-less c = omega arith
 loop-again : tie.Need-loop-again Inv-loop μ-loop
 loop-again c =
     let i = c .before .before .before .before .before .loop .inv in
-    (omega (arith, c .before .before .before .before .before .before .rows-of .ensures .0), to-next-row (i .1) _ _ (c .before .before .take-module .ensures .0) (c .before .before .take-module .ensures .1))
+    let s = c .before .before .before .before .before .before .before .before .before .before .pre .0 .symbol in
+    let h : c .before .before .before .before .before .loop .r < rows (c .before .before .before .before .before .before .before .before .before .before .args .p) = omega (arith, c .before .before .before .before .before .before .rows-of .ensures .0) in
+    (omega arith, c .before .before .sample-module .ensures .0, rw (c .before .before .sample-module .ensures .1) (sampled-next (i .2) (s .in-range) (s .sound) (c .before .before .before .before .before .before .before .before .before .before .pre .0 .column) h (c .before .before .before .before .before .loop .next) (i .1)))
 
 same-length : tie.Need-same-length Inv-loop μ-loop
-same-length c = column-length (c .before .loop .inv .1)
+same-length c = c .before .loop .inv .2 .whole ∙ sym (c .before .before .before .before .before .before .pre .1 .whole)
 
 returns : tie.Need-returns Inv-loop μ-loop
 returns c =
     let a = c .before .before .before .before .before .before .args in
     let i = c .before .loop .inv in
     let e : c .before .loop .r ≡ rows (a .p) = omega (arith, i .0, c .before .before .rows-of .ensures .0) in
-    (i .1 .ranked ∙ rw (e, add-one (a .c)) (rank-column (a .p) (a .list .now) (a .c)), rw (← e) (i .1 .stored))
+    (i .1 ∙ rw (e, add-one (a .c)) (rank-column (a .p) (a .list .now) (a .c)), sampled-column (rw e at (i .2)))
 
 pub sample-column-spec : {M : Type 1} → statement M
 sample-column-spec =
@@ -59,7 +61,7 @@ sample-column-spec =
     μ-loop
     rows-of-requires
     loop-holds
-    take-module-requires
+    sample-module-requires
     add-r
     loop-less
     loop-again

@@ -1,6 +1,7 @@
 -- `patterns::pattern_colour` meets its contract. Assumes nothing.
 use Prim.Native.Nat.{ℕ}
 use mathlib.Core.Path.{_≡_, _∙_, sym, ap, ap₂}
+use native.Mathlib.Omega.{arith}
 use Rattle.symbology.specs.declared.Pattern.{Pattern}
 use Rattle.symbology.specs.Patterns.{patternOf, colourIn}
 use Rattle.patterns.proofs.Meeting.{across-row, down-row, column-apart, row-apart, both-near, number-across, number-down}
@@ -11,7 +12,7 @@ use Rattle.patterns.proofs.pattern_colour.Tie as tie
 near-core-requires : tie.Need-near-core-requires
 near-core-requires c κs =
     let rows = across-row (c .before .before .args .p) (c .before .before .args .cores) (c .before .before .pre .0) (c .before .before .pre .1) in
-    (rows .0, rows .1, c .before .before .pre .2)
+    (rows .0, rows .1, omega arith)
 
 enum-known-i : tie.Need-enum-known-i
 enum-known-i c = search needs
@@ -27,7 +28,7 @@ returns c =
 near-core-requires-2 : tie.Need-near-core-requires-2
 near-core-requires-2 c κs =
     let rows = down-row (c .before .before .before .before .before .before .args .p) (c .before .before .before .before .before .before .args .cores) (c .before .before .before .before .before .before .pre .0) (c .before .before .before .before .before .before .pre .1) in
-    (rows .0, rows .1, c .before .before .before .before .before .before .pre .3)
+    (rows .0, rows .1, omega arith)
 
 enum-known-j : tie.Need-enum-known-j
 enum-known-j c = search needs

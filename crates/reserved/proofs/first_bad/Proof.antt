@@ -3,12 +3,12 @@ use Prim.Native.Nat.{_-_}
 use mathlib.Core.Path.{_∙_, sym}
 use native.Mathlib.Omega.{arith}
 use Rattle.symbology.specs.Reserved.{badAt}
-use Rattle.laws.proofs.Search.{Left, left-all, left-next, left-found, left-none}
+use Rattle.laws.proofs.Search.{SearchFrom, search-start, search-next, search-found, search-none}
 use Rattle.reserved.proofs.first_bad.Statement.{statement}
 use Rattle.reserved.proofs.first_bad.Tie as tie
 
 abbrev Inv-loop : tie.InvT-loop
-Inv-loop p list n cores k₀ k = Left (badAt p list) n k
+Inv-loop p list n cores k₀ k = SearchFrom (badAt p list) n k
 
 abbrev μ-loop : tie.MeasureT-loop
 μ-loop p list n cores k₀ k = n - k
@@ -17,7 +17,7 @@ side-cores-requires : tie.Need-side-cores-requires Inv-loop μ-loop
 side-cores-requires c κs = c .before .pre .0
 
 loop-holds : tie.Need-loop-holds Inv-loop μ-loop
-loop-holds c = left-all (badAt (c .before .before .args .p) (c .before .before .args .list .now)) (c .before .before .args .n)
+loop-holds c = search-start (badAt (c .before .before .args .p) (c .before .before .args .list .now)) (c .before .before .args .n)
 
 is-bad-requires : tie.Need-is-bad-requires Inv-loop μ-loop
 is-bad-requires c κs = (c .before .before .before .before .pre .0, c .before .before .side-cores .ensures, omega arith)
@@ -25,7 +25,7 @@ is-bad-requires c κs = (c .before .before .before .before .pre .0, c .before .b
 returns : tie.Need-returns Inv-loop μ-loop
 returns c =
     let a = c .before .before .before .before .before .before .args in
-    sym (left-found (badAt (a .p) (a .list .now)) (a .n) (c .before .before .before .loop .k) (c .before .before .before .loop .inv) (c .before .before .loop-test .taken) (sym (c .before .is-bad .ensures) ∙ c .if1 .taken))
+    sym (search-found (badAt (a .p) (a .list .now)) (a .n) (c .before .before .before .loop .k) (c .before .before .before .loop .inv) (c .before .before .loop-test .taken) (sym (c .before .is-bad .ensures) ∙ c .if1 .taken))
 
 add-k : tie.Need-add-k Inv-loop μ-loop
 add-k c = omega arith
@@ -36,12 +36,12 @@ loop-less c = omega arith
 loop-again : tie.Need-loop-again Inv-loop μ-loop
 loop-again c =
     let a = c .before .before .before .before .before .before .args in
-    left-next (badAt (a .p) (a .list .now)) (a .n) (c .before .before .before .loop .k) (c .before .before .before .loop .inv) (c .before .before .loop-test .taken) (sym (c .before .is-bad .ensures) ∙ c .if1 .left)
+    search-next (badAt (a .p) (a .list .now)) (a .n) (c .before .before .before .loop .k) (c .before .before .before .loop .inv) (c .before .before .loop-test .taken) (sym (c .before .is-bad .ensures) ∙ c .if1 .left)
 
 returns-2 : tie.Need-returns-2 Inv-loop μ-loop
 returns-2 c =
     let a = c .before .before .before .before .args in
-    sym (left-none (badAt (a .p) (a .list .now)) (a .n) (c .before .loop .k) (c .before .loop .inv) (c .loop-test .left))
+    sym (search-none (badAt (a .p) (a .list .now)) (a .n) (c .before .loop .k) (c .before .loop .inv) (c .loop-test .left))
 
 pub first-bad-spec : {M : Type 1} → statement M
 first-bad-spec =

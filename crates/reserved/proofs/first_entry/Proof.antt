@@ -3,18 +3,18 @@ use Prim.Native.Nat.{_-_}
 use mathlib.Core.Path.{_∙_, sym}
 use native.Mathlib.Omega.{arith}
 use Rattle.symbology.specs.Reserved.{entryAt, firstEntry}
-use Rattle.laws.proofs.Search.{Left, left-all, left-next, left-found, left-none}
+use Rattle.laws.proofs.Search.{SearchFrom, search-start, search-next, search-found, search-none}
 use Rattle.reserved.proofs.first_entry.Statement.{statement}
 use Rattle.reserved.proofs.first_entry.Tie as tie
 
 abbrev Inv-loop : tie.InvT-loop
-Inv-loop list n x y k₀ k = Left (entryAt list x y) n k
+Inv-loop list n x y k₀ k = SearchFrom (entryAt list x y) n k
 
 abbrev μ-loop : tie.MeasureT-loop
 μ-loop list n x y k₀ k = n - k
 
 loop-holds : tie.Need-loop-holds Inv-loop μ-loop
-loop-holds c = left-all (entryAt (c .before .args .list .now) (c .before .args .x) (c .before .args .y)) (c .before .args .n)
+loop-holds c = search-start (entryAt (c .before .args .list .now) (c .before .args .x) (c .before .args .y)) (c .before .args .n)
 
 stands-at-requires : tie.Need-stands-at-requires Inv-loop μ-loop
 stands-at-requires c κs = omega arith
@@ -23,7 +23,7 @@ returns : tie.Need-returns Inv-loop μ-loop
 unfolding firstEntry
 returns c =
     let a = c .before .before .before .before .before .args in
-    (sym (left-found (entryAt (a .list .now) (a .x) (a .y)) (a .n) (c .before .before .before .loop .k) (c .before .before .before .loop .inv) (c .before .before .loop-test .taken) (sym (c .before .stands-at .ensures) ∙ c .if1 .taken)), omega arith)
+    (sym (search-found (entryAt (a .list .now) (a .x) (a .y)) (a .n) (c .before .before .before .loop .k) (c .before .before .before .loop .inv) (c .before .before .loop-test .taken) (sym (c .before .stands-at .ensures) ∙ c .if1 .taken)), omega arith)
 
 add-k : tie.Need-add-k Inv-loop μ-loop
 add-k c = omega arith
@@ -34,13 +34,13 @@ loop-less c = omega arith
 loop-again : tie.Need-loop-again Inv-loop μ-loop
 loop-again c =
     let a = c .before .before .before .before .before .args in
-    left-next (entryAt (a .list .now) (a .x) (a .y)) (a .n) (c .before .before .before .loop .k) (c .before .before .before .loop .inv) (c .before .before .loop-test .taken) (sym (c .before .stands-at .ensures) ∙ c .if1 .left)
+    search-next (entryAt (a .list .now) (a .x) (a .y)) (a .n) (c .before .before .before .loop .k) (c .before .before .before .loop .inv) (c .before .before .loop-test .taken) (sym (c .before .stands-at .ensures) ∙ c .if1 .left)
 
 returns-2 : tie.Need-returns-2 Inv-loop μ-loop
 unfolding firstEntry
 returns-2 c =
     let a = c .before .before .before .args in
-    (sym (left-none (entryAt (a .list .now) (a .x) (a .y)) (a .n) (c .before .loop .k) (c .before .loop .inv) (c .loop-test .left)), c .before .loop .inv .within)
+    (sym (search-none (entryAt (a .list .now) (a .x) (a .y)) (a .n) (c .before .loop .k) (c .before .loop .inv) (c .loop-test .left)), c .before .loop .inv .most)
 
 pub first-entry-spec : {M : Type 1} → statement M
 first-entry-spec =

@@ -1,4 +1,4 @@
--- `layout::take_module` meets its contract. Assumes nothing.
+-- `layout::sample_module` meets its contract. Assumes nothing.
 use Prim.Native.Nat.{ℕ, _*_}
 use mathlib.Core.Path.{_∙_, sym, ap, ap₂}
 use native.Mathlib.Omega.{arith}
@@ -6,8 +6,8 @@ use lib.Seq.{sets}
 use Rattle.symbology.specs.Capacity.{bitsPerModule}
 use Rattle.layout.proofs.Walk.{module-inside, cell-legal, mask-legal, bits-there, rank-small, fixed-next, data-next, fixed-bits, data-bits-are}
 use borrow.Author.Needs.{needs}
-use Rattle.layout.proofs.take_module.Statement.{statement}
-use Rattle.layout.proofs.take_module.Tie as tie
+use Rattle.layout.proofs.sample_module.Statement.{statement}
+use Rattle.layout.proofs.sample_module.Tie as tie
 
 index-of-requires : tie.Need-index-of-requires
 index-of-requires c κs = module-inside (c .before .before .before .pre .0) (c .before .before .before .pre .1)
@@ -62,8 +62,8 @@ returns-2 c =
     let e = sym (c .before .before .before .before .before .before .before .before .before .cell-at .ensures) ∙ c .before .before .before .before .before .before .before .enum-told2 .given .1 in
     (data-next w e, c .before .before .put-bits .ensures ∙ ap₂ (sets (a .out .now)) (ap (λ (n : ℕ). n * a .k) (c .before .before .before .before .before .before .depth-of .ensures .0)) (data-bits-are w (a .matrix .now) (c .before .before .before .before .before .before .depth-of .result) (c .before .before .before .before .before .before .before .before .before .before .index-of .result) (c .before .before .before .mask-at .result) (c .before .before .before .before .before .before .depth-of .ensures .0) (c .before .before .before .before .before .before .before .before .before .before .index-of .ensures .0) (c .before .before .before .mask-at .ensures) e))
 
-pub take-module-spec : {M : Type 1} → statement M
-take-module-spec =
+pub sample-module-spec : {M : Type 1} → statement M
+sample-module-spec =
     tie.close
     (tie.spec
     index-of-requires

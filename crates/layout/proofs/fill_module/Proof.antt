@@ -1,17 +1,20 @@
--- `layout::put_module` meets its contract. Assumes nothing.
+-- `layout::fill_module` meets its contract. Assumes nothing.
 use mathlib.Core.Path.{_∙_, sym, ap₂}
 use native.Mathlib.Omega.{arith}
 use lib.ListN.{set}
 use Rattle.layout.proofs.Walk.{module-inside, cell-legal, mask-legal, bits-there, rank-small, fixed-next, data-next, fixed-module, data-module}
 use borrow.Author.Needs.{needs}
-use Rattle.layout.proofs.put_module.Statement.{statement}
-use Rattle.layout.proofs.put_module.Tie as tie
+use Rattle.layout.proofs.fill_module.Statement.{statement}
+use Rattle.layout.proofs.fill_module.Tie as tie
 
 index-of-requires : tie.Need-index-of-requires
 index-of-requires c κs = module-inside (c .before .before .before .pre .0) (c .before .before .before .pre .1)
 
+mask-at-requires : tie.Need-mask-at-requires
+mask-at-requires c κs = mask-legal (c .before .before .before .before .pre .0) (c .before .before .before .before .pre .1)
+
 cell-at-requires : tie.Need-cell-at-requires
-cell-at-requires c κs = cell-legal (c .before .before .before .before .pre .0) (c .before .before .before .before .pre .1)
+cell-at-requires c κs = cell-legal (c .before .before .before .before .before .pre .0) (c .before .before .before .before .before .pre .1)
 
 enum-known-cell : tie.Need-enum-known-cell
 enum-known-cell c = search needs
@@ -24,10 +27,10 @@ same-length c = search needs
 
 returns : tie.Need-returns
 returns c =
-    let a = c .before .before .before .before .before .before .before .before .args in
-    let w = c .before .before .before .before .before .before .before .before .pre .0 in
+    let a = c .before .before .before .before .before .before .before .before .before .args in
+    let w = c .before .before .before .before .before .before .before .before .before .pre .0 in
     let e = sym (c .before .before .before .cell-at .ensures) ∙ c .before .cell .given .1 in
-    (fixed-next w e, ap₂ (set (a .matrix .now)) (c .before .before .before .before .index-of .ensures .0) (fixed-module w (a .bits .now) e))
+    (fixed-next w e, ap₂ (set (a .matrix .now)) (c .before .before .before .before .before .index-of .ensures .0) (fixed-module w (a .bits .now) e))
 
 enum-told : tie.Need-enum-told
 enum-told c = search needs
@@ -38,22 +41,19 @@ depth-of-requires c κs = search needs
 mul-bits-value : tie.Need-mul-bits-value
 mul-bits-value c =
     let e = sym (c .before .before .before .cell-at .ensures) ∙ c .before .enum-told .given .1 in
-    omega (arith, bits-there (c .before .before .before .before .before .before .before .before .pre .0) (c .depth-of .result) (c .depth-of .ensures .0) (c .before .before .before .before .before .before .before .before .pre .1) e)
+    omega (arith, bits-there (c .before .before .before .before .before .before .before .before .before .pre .0) (c .depth-of .result) (c .depth-of .ensures .0) (c .before .before .before .before .before .before .before .before .before .pre .1) e)
 
 bits-value-requires : tie.Need-bits-value-requires
 bits-value-requires c κs =
     let e = sym (c .before .before .before .cell-at .ensures) ∙ c .before .enum-told .given .1 in
-    (bits-there (c .before .before .before .before .before .before .before .before .pre .0) (c .depth-of .result) (c .depth-of .ensures .0) (c .before .before .before .before .before .before .before .before .pre .1) e, omega (arith, c .depth-of .ensures .1))
-
-mask-at-requires : tie.Need-mask-at-requires
-mask-at-requires c κs = mask-legal (c .before .before .before .before .before .before .before .before .before .pre .0) (c .before .before .before .before .before .before .before .before .before .pre .1)
+    (bits-there (c .before .before .before .before .before .before .before .before .before .pre .0) (c .depth-of .result) (c .depth-of .ensures .0) (c .before .before .before .before .before .before .before .before .before .pre .1) e, omega (arith, c .depth-of .ensures .1))
 
 slice-write-matrix-2 : tie.Need-slice-write-matrix-2
 slice-write-matrix-2 c = search needs
 
 add-result : tie.Need-add-result
 add-result c =
-    let e = sym (c .before .before .before .before .before .cell-at .ensures) ∙ c .before .before .before .enum-told .given .1 in
+    let e = sym (c .before .before .before .before .cell-at .ensures) ∙ c .before .before .enum-told .given .1 in
     omega (arith, rank-small (c .before .before .before .before .before .before .before .before .before .before .pre .0) (c .before .before .before .before .before .before .before .before .before .before .pre .1) e)
 
 same-length-2 : tie.Need-same-length-2
@@ -63,14 +63,15 @@ returns-2 : tie.Need-returns-2
 returns-2 c =
     let a = c .before .before .before .before .before .before .before .before .before .before .args in
     let w = c .before .before .before .before .before .before .before .before .before .before .pre .0 in
-    let e = sym (c .before .before .before .before .before .cell-at .ensures) ∙ c .before .before .before .enum-told .given .1 in
-    (data-next w e, ap₂ (set (a .matrix .now)) (c .before .before .before .before .before .before .index-of .ensures .0) (data-module w (a .bits .now) (c .before .before .depth-of .result) (c .before .bits-value .result) (c .mask-at .result) (c .before .before .depth-of .ensures .0) (c .before .bits-value .ensures) (c .mask-at .ensures) e))
+    let e = sym (c .before .before .before .before .cell-at .ensures) ∙ c .before .before .enum-told .given .1 in
+    (data-next w e, ap₂ (set (a .matrix .now)) (c .before .before .before .before .before .before .index-of .ensures .0) (data-module w (a .bits .now) (c .before .depth-of .result) (c .bits-value .result) (c .before .before .before .before .before .mask-at .result) (c .before .depth-of .ensures .0) (c .bits-value .ensures) (c .before .before .before .before .before .mask-at .ensures) e))
 
-pub put-module-spec : {M : Type 1} → statement M
-put-module-spec =
+pub fill-module-spec : {M : Type 1} → statement M
+fill-module-spec =
     tie.close
     (tie.spec
     index-of-requires
+    mask-at-requires
     cell-at-requires
     enum-known-cell
     slice-write-matrix
@@ -80,7 +81,6 @@ put-module-spec =
     depth-of-requires
     mul-bits-value
     bits-value-requires
-    mask-at-requires
     slice-write-matrix-2
     add-result
     same-length-2
