@@ -1,5 +1,6 @@
-// The types that cross crates, and in specs/ every definition that a contract of the library cites.
-// This crate has no functions: it is what a reader must believe.
+// The types of the calls, and in specs/ every definition that an answer or a buffer of a call is held
+// to. What lower functions keep or ask for stands in the specs/ of their crates. This crate has no
+// functions: it is what a reader must believe.
 
 // What a caller chooses for one symbol, in document 01's order. Any number may stand in any field:
 // the calls refuse what is outside document 01's ranges.

@@ -6,6 +6,7 @@ use Rattle.symbology.specs.Ranges.{within, allHold}
 use Rattle.symbology.specs.Parameters.{rangeTests}
 use Rattle.capacity.specs.Groups.{codeTests}
 use Rattle.capacity.proofs.Groups.{one-fails, refused, passed}
+use native.Mathlib.Omega.{arith}
 use borrow.Author.Needs.{needs}
 use Rattle.capacity.proofs.code_in_range.Statement.{statement}
 use Rattle.capacity.proofs.code_in_range.Tie as tie
@@ -28,7 +29,7 @@ returns-3 : tie.Need-returns-3
 unfolding rangeTests
 returns-3 c =
     let p = c .before .before .before .before .before .before .args .p in
-    one-fails (codeTests p) 2 (le-ltb (p .wc) (p .wr) (c .if3 .taken))
+    one-fails (codeTests p) 2 (le-ltb (p .wc) (p .wr) (omega arith))
 
 is-within-requires-3 : tie.Need-is-within-requires-3
 is-within-requires-3 c κs = search needs

@@ -2,7 +2,8 @@
 use mathlib.Core.Path.{ap}
 use native.Mathlib.Omega.{arith}
 use lib.ListN.{length}
-use Rattle.lister.specs.Listing.{numberLine, refusedLine}
+use Rattle.symbology.specs.Sides.{sideSize}
+use Rattle.lister.specs.Listing.{TextAt, numberLine, refusedLine}
 use Rattle.lister.proofs.Text.{joined, same-text, from-start}
 use Rattle.lister.proofs.Lengths.{text-length}
 use Rattle.lister.proofs.Listing.{refused-below, refused-above, three-lines, lines-fit}
@@ -40,37 +41,40 @@ returns-2 c =
     let e = refused-above (c .before .before .before .before .before .before .before .before .args .version) (c .before .before .before .before .before .if2 .taken) in
     from-start (same-text e (c .before .before .put-text2 .ensures)) (omega (arith, ap length e))
 
-mul-put-number-line : tie.Need-mul-put-number-line
-mul-put-number-line c = search needs
-
-add-put-number-line : tie.Need-add-put-number-line
-add-put-number-line c = search needs
+side-size-requires : tie.Need-side-size-requires
+side-size-requires c κs = search needs
 
 put-number-line-requires : tie.Need-put-number-line-requires
 put-number-line-requires c κs = search needs
 
+-- the first line is that of the side's size
+first-line : (c : tie.After-put-number-line)
+    → let a = c .before .before .before .before .before .before .args in
+    TextAt (numberLine (sideSize (a .version))) 0 (a .out .now) (c .put-number-line .last .0) (c .put-number-line .result)
+first-line c = same-text (ap numberLine (c .before .side-size .ensures .0)) (c .put-number-line .ensures)
+
 put-cores-line-requires : tie.Need-put-cores-line-requires
 put-cores-line-requires c κs =
-    let f = lines-fit (c .before .before .before .before .before .before .before .before .args .version) (c .before .before .before .before .before .before .if1 .left) (c .before .before .before .before .before .if2 .left) in
-    (omega (arith, c .before .before .before .put-number-line .ensures .place), c .before .before .before .before .before .before .if1 .left, c .before .before .before .before .before .if2 .left)
+    let f = lines-fit (c .before .before .before .before .before .before .before .before .before .args .version) (c .before .before .before .before .before .before .before .if1 .left) (c .before .before .before .before .before .before .if2 .left) in
+    (omega (arith, first-line (c .before .before .before) .place), c .before .before .before .before .before .before .before .if1 .left, c .before .before .before .before .before .before .if2 .left)
 
 inner-patterns-requires : tie.Need-inner-patterns-requires
 inner-patterns-requires c κs = search needs
 
 put-number-line-requires-2 : tie.Need-put-number-line-requires-2
 put-number-line-requires-2 c κs =
-    let f = lines-fit (c .before .before .before .before .before .before .before .before .before .before .before .before .before .args .version) (c .before .before .before .before .before .before .before .before .before .before .before .if1 .left) (c .before .before .before .before .before .before .before .before .before .before .if2 .left) in
-    (omega (arith, c .before .before .before .before .before .before .before .before .put-number-line .ensures .place, c .before .before .before .before .put-cores-line .ensures .place), omega (arith, c .inner-patterns .ensures .1))
+    let f = lines-fit (c .before .before .before .before .before .before .before .before .before .before .before .before .before .before .args .version) (c .before .before .before .before .before .before .before .before .before .before .before .before .if1 .left) (c .before .before .before .before .before .before .before .before .before .before .before .if2 .left) in
+    (omega (arith, first-line (c .before .before .before .before .before .before .before .before) .place, c .before .before .before .before .put-cores-line .ensures .place), omega (arith, c .inner-patterns .ensures .1))
 
 same-length-3 : tie.Need-same-length-3
 same-length-3 c = search needs
 
 returns-3 : tie.Need-returns-3
 returns-3 c =
-    let v = c .before .before .before .before .before .before .before .before .before .before .before .before .before .before .before .before .args .version in
+    let v = c .before .before .before .before .before .before .before .before .before .before .before .before .before .before .before .before .before .args .version in
     let third = same-text (ap numberLine (c .before .before .before .inner-patterns .ensures .0)) (c .before .before .put-number-line2 .ensures) in
-    let lines = joined (joined (c .before .before .before .before .before .before .before .before .before .before .before .put-number-line .ensures) (c .before .before .before .before .before .before .before .put-cores-line .ensures)) third in
-    from-start (same-text (three-lines v (c .before .before .before .before .before .before .before .before .before .before .before .before .before .before .if1 .left) (c .before .before .before .before .before .before .before .before .before .before .before .before .before .if2 .left)) lines) (text-length v (c .before .before .before .before .before .before .before .before .before .before .before .before .before .before .if1 .left) (c .before .before .before .before .before .before .before .before .before .before .before .before .before .if2 .left))
+    let lines = joined (joined (first-line (c .before .before .before .before .before .before .before .before .before .before .before)) (c .before .before .before .before .before .before .before .put-cores-line .ensures)) third in
+    from-start (same-text (three-lines v (c .before .before .before .before .before .before .before .before .before .before .before .before .before .before .before .if1 .left) (c .before .before .before .before .before .before .before .before .before .before .before .before .before .before .if2 .left)) lines) (text-length v (c .before .before .before .before .before .before .before .before .before .before .before .before .before .before .before .if1 .left) (c .before .before .before .before .before .before .before .before .before .before .before .before .before .before .if2 .left))
 
 pub side-text-spec : {M : Type 1} → statement M
 side-text-spec =
@@ -84,8 +88,7 @@ side-text-spec =
     put-text-requires-2
     same-length-2
     returns-2
-    mul-put-number-line
-    add-put-number-line
+    side-size-requires
     put-number-line-requires
     put-cores-line-requires
     inner-patterns-requires

@@ -1,4 +1,5 @@
 -- `patterns::side_cores` meets its contract. Assumes nothing.
+use native.Mathlib.Omega.{arith}
 use Rattle.laws.proofs.Parameters.{ranges}
 use Rattle.patterns.specs.Cores.{coresFor}
 use borrow.Author.Needs.{needs}
@@ -11,7 +12,7 @@ cast-core-row c = search needs
 core-row-requires : tie.Need-core-row-requires
 core-row-requires c κs =
     let r = ranges (c .before .args .p) (c .before .pre) in
-    (r .horizontal-least, r .horizontal-most)
+    omega arith
 
 cast-core-row-2 : tie.Need-cast-core-row-2
 cast-core-row-2 c = search needs
@@ -19,7 +20,7 @@ cast-core-row-2 c = search needs
 core-row-requires-2 : tie.Need-core-row-requires-2
 core-row-requires-2 c κs =
     let r = ranges (c .before .before .before .args .p) (c .before .before .before .pre) in
-    (r .vertical-least, r .vertical-most)
+    omega arith
 
 returns : tie.Need-returns
 unfolding coresFor
