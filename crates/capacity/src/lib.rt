@@ -3,8 +3,8 @@
 // 1 to 5 of document 01.
 //
 // `sizes` is for callers. It, `in_range` and the two functions of tests answer every input; the others
-// serve the crates above and ask for what these have shown. All of it is a few dozen operations but
-// for test 2, which the crate `reserved` makes.
+// serve the crates above and ask for what these have shown. Only test 2, which the crate `reserved`
+// makes, costs more for a longer list.
 use symbology::Answer;
 use symbology::Bits;
 use symbology::ListVerdict;

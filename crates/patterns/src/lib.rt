@@ -1,6 +1,6 @@
 // The finder and alignment patterns: which colour they give a module. `pattern_colour` is the way
 // in, with the rows of Table 2 from `side_cores`; the others follow its definition, one function for
-// each. A module costs at most 18 comparisons with core coordinates.
+// each. For a module at most 18 core coordinates are looked at, nine a side.
 use symbology::Near;
 use symbology::Params;
 use symbology::Pattern;

@@ -11,7 +11,7 @@ use Rattle.symbology.specs.Tests.{firstOf, sizesFor, sizeTests}
 abbrev pub noSizes : ℕ → ℕ → SizesAnswer
 noSizes number place = record { number = number; place = place; columns = 0; rows = 0; capacity = 0; net = 0; work = 0 }
 
--- 0
+-- the answer 0, with the sizes
 abbrev pub theSizes : Sizes → SizesAnswer
 theSizes s =
     record {

@@ -7,6 +7,7 @@ use Rattle.symbology.specs.Ranges.{allHold}
 use Rattle.symbology.specs.Parameters.{rangeTests}
 use Rattle.capacity.specs.Groups.{colourTests}
 use Rattle.capacity.proofs.Groups.{one-fails, refused, passed}
+use native.Mathlib.Omega.{arith}
 use borrow.Author.Needs.{needs}
 use Rattle.capacity.proofs.colours_in_range.Statement.{statement}
 use Rattle.capacity.proofs.colours_in_range.Tie as tie
@@ -28,7 +29,7 @@ returns-3 : tie.Need-returns-3
 unfolding rangeTests
 returns-3 c =
     let p = c .before .before .before .before .before .before .args .p in
-    one-fails (colourTests p) 2 (le-ltb (p .cyan) (p .colours) (c .if3 .taken))
+    one-fails (colourTests p) 2 (le-ltb (p .cyan) (p .colours) (omega arith))
 
 returns-4 : tie.Need-returns-4
 unfolding rangeTests

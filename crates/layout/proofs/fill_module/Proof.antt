@@ -11,7 +11,9 @@ index-of-requires : tie.Need-index-of-requires
 index-of-requires c κs = module-inside (c .before .before .before .pre .0) (c .before .before .before .pre .1)
 
 mask-at-requires : tie.Need-mask-at-requires
-mask-at-requires c κs = mask-legal (c .before .before .before .before .pre .0) (c .before .before .before .before .pre .1)
+mask-at-requires c κs =
+    let m = mask-legal (c .before .before .before .before .pre .0) (c .before .before .before .before .pre .1) in
+    (m .0, omega (arith, m .1, m .2), omega (arith, m .1, m .2))
 
 cell-at-requires : tie.Need-cell-at-requires
 cell-at-requires c κs = cell-legal (c .before .before .before .before .before .pre .0) (c .before .before .before .before .before .pre .1)

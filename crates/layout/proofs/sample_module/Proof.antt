@@ -40,7 +40,9 @@ shared-slice-read-put-bits : tie.Need-shared-slice-read-put-bits
 shared-slice-read-put-bits c = search needs
 
 mask-at-requires : tie.Need-mask-at-requires
-mask-at-requires c κs = mask-legal (c .before .before .before .before .before .before .before .before .before .before .pre .0) (c .before .before .before .before .before .before .before .before .before .before .pre .1)
+mask-at-requires c κs =
+    let m = mask-legal (c .before .before .before .before .before .before .before .before .before .before .pre .0) (c .before .before .before .before .before .before .before .before .before .before .pre .1) in
+    (m .0, omega (arith, m .1, m .2), omega (arith, m .1, m .2))
 
 put-bits-requires : tie.Need-put-bits-requires
 put-bits-requires c κs =
