@@ -218,12 +218,14 @@ bit-same x y p q e =
     by (eqb (x % 2) 1) (λ t. let s : x % 2 ≡ 1 = eqb-true (x % 2) 1 t in let u : y % 2 ≡ 1 = eqb-true (y % 2) 1 (sym e ∙ t) in omega arith)
     (λ t. let s : x % 2 ≡ 1 → ⊥ = eqb-false (x % 2) 1 t in let u : y % 2 ≡ 1 → ⊥ = eqb-false (y % 2) 1 (sym e ∙ t) in omega arith)
 
-bitSum-append : (a b : List ℕ) (w : List ℕ) → bitSum (a ++ b) w ≡ bitSum a w + bitSum b w
+-- The bits of two checks joined add to the sum of their sums.
+pub bitSum-append : (a b : List ℕ) (w : List ℕ) → bitSum (a ++ b) w ≡ bitSum a w + bitSum b w
 unfolding bitSum
 bitSum-append [] b w = omega arith
 bitSum-append (j ∷ a) b w = omega (arith, bitSum-append a b w)
 
-unmetCount-snoc : (cs : List (List ℕ)) (c : List ℕ) (w : List ℕ) → unmetCount (cs ++ (c ∷ [])) w ≡ unmetCount cs w + unmet c w
+-- One more check adds 1 to the unmet count where it is unmet.
+pub unmetCount-snoc : (cs : List (List ℕ)) (c : List ℕ) (w : List ℕ) → unmetCount (cs ++ (c ∷ [])) w ≡ unmetCount cs w + unmet c w
 unfolding unmetCount
 unmetCount-snoc [] c w = omega arith
 unmetCount-snoc (x ∷ cs) c w = omega (arith, unmetCount-snoc cs c w)

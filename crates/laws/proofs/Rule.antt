@@ -124,8 +124,8 @@ sum-changed (x ∷ c) w j o l h =
       | no e ↦ omega (arith, turned-elsewhere w j x e, sum-changed c w j (o .1) l (rw (ne-eqb j x (λ s. e (sym s))) at h))
     ]
 
--- one check: it changes exactly where it names the bit
-unmet-change : (c w : List ℕ) (j : ℕ) → Once c → AllBits w → j < length w
+-- A turned bit changes a check exactly where the check names it.
+pub unmet-change : (c w : List ℕ) (j : ℕ) → Once c → AllBits w → j < length w
     → unmet c (turned w j) + cond (has j c) (unmet c w) 0 ≡ unmet c w + cond (has j c) (1 - unmet c w) 0
 unfolding unmet
 unmet-change c w j o b l =

@@ -1,0 +1,204 @@
+-- A built block by block: the column orders and the states of the generator in step with the rows.
+-- Assumes nothing.
+use Prim.Native.Nat.{ℕ, suc, _+_, _-_, _*_, _/_, _^_, _%_, _≤_, _<_}
+use mathlib.Core.Path.{_≡_, refl, sym, ap, ap₂, _∙_}
+use mathlib.Core.Logic.{_⊎_, inl, inr, ⊎-elim}
+use mathlib.Core.Bool.{Bool, false, xor}
+use mathlib.Core.List.{List}
+use native.Mathlib.Nat.{zero-mul, suc-mul, mul-comm, mul-le-mul-right, zero-div, div-lt-iff-lt-mul}
+use native.Mathlib.Numerals.{add-one}
+use native.Mathlib.Decide.{ℕ-discrete, decLt}
+use native.Mathlib.Omega.{arith}
+use lib.Arith.{digits-div, digits-mod}
+use lib.Dec.{eqb}
+use lib.ListN.{getD}
+use borrow.Author.Tests.{eq-eqb, ne-eqb}
+use Rattle.symbology.specs.Generator.{stateAfter}
+use Rattle.symbology.specs.Shuffle.{shuffled}
+use Rattle.symbology.specs.Matrix.{matrixSeed, columnOrder, matrixA}
+use Rattle.laws.proofs.Gf2.{xor-none, none-xor}
+use Rattle.laws.proofs.Generator.{after-add}
+use Rattle.laws.proofs.Matrix.{order-lt}
+use Rattle.lent.specs.declared.Areas.{Areas}
+use Rattle.lent.specs.Buffer.{numbersAt, ChangedIn, ChangedInBoth, Cleared, Laid}
+use Rattle.lent.proofs.Buffer.{numbers-same, both-then}
+use Rattle.dense.specs.Dense.{denseBits}
+use Rattle.dense.proofs.Dense.{row-gap, in-row, rows-same}
+use Rattle.check_matrix.specs.Build.{CountedUp, BlockFits, BlockTurned, Built}
+
+-- ---- places that stay
+
+-- Only the dense rows and the numbers are changed.
+abbrev RowsAndNumbers : Areas → List ℕ → List ℕ → Type 0
+RowsAndNumbers a = ChangedInBoth (a .checks * a .stride) (a .numbers) (a .numbers + 2 * a .gross)
+
+module _ {a : Areas} {room : ℕ} (l : Laid a room) where
+  -- the numbers lie behind the rows
+  rows-first : a .checks * a .stride ≤ a .numbers
+  rows-first = omega (arith, l .rows-end, l .marks-end, l .word-end)
+
+  changed-rows : {before after : List ℕ} → ChangedIn 0 (a .checks * a .stride) before after → RowsAndNumbers a before after
+  changed-rows c =
+      record { long = c .long; between = λ i h g. c .behind i h; behind = λ i h. c .behind i (omega (arith, rows-first)) }
+
+  changed-numbers : {before after : List ℕ} → ChangedIn (a .numbers) (a .numbers + 2 * a .gross) before after → RowsAndNumbers a before after
+  changed-numbers c = record { long = c .long; between = λ i h g. c .front i g; behind = c .behind }
+
+  -- bits of the rows stay where only numbers are changed
+  bits-same : {before after : List ℕ} → ChangedIn (a .numbers) (a .numbers + 2 * a .gross) before after
+      → (i : ℕ) → i < a .checks → (j : ℕ) → j < a .gross → denseBits after (a .stride) i j ≡ denseBits before (a .stride) i j
+  bits-same {before} {after} c i h j g =
+      rows-same before after (a .stride) (a .checks) (a .numbers) rows-first (c .front) i h j (in-row (a .gross) (a .stride) j (l .wide) g)
+
+  -- the bits of cleared rows
+  bits-cleared : {before after : List ℕ} → Cleared 0 (a .checks * a .stride) before after
+      → (i : ℕ) → i < a .checks → (j : ℕ) → j < a .gross → denseBits after (a .stride) i j ≡ false
+  unfolding denseBits
+  bits-cleared {before} {after} c i h j g =
+      let low : j / 8 < a .stride = in-row (a .gross) (a .stride) j (l .wide) g in
+      let zero-there : getD after (i * a .stride + j / 8) 0 ≡ 0 =
+      c .zero-in (i * a .stride + j / 8) (omega arith) (omega (arith, row-gap i (a .checks) (a .stride) h)) in
+      ap (λ (v : ℕ). eqb (v / 2 ^ (j % 8) % 2) 1) zero-there ∙ ap (λ (v : ℕ). eqb (v % 2) 1) (zero-div (2 ^ (j % 8)))
+
+-- ---- the rows of a block
+
+-- row r of the block behind `block` blocks
+block-row : (seed t wr block j r : ℕ) → r < t
+    → matrixA seed t wr (block * t + r) j ≡ eqb (getD (columnOrder seed (t * wr) (suc block)) j 0 / wr) r
+unfolding matrixA
+block-row seed t wr block j r h = rw (digits-div block h, digits-mod block h, add-one block) refl
+
+-- the same for a row counted from the first of all
+block-bit : (seed t wr block i j : ℕ) → block * t ≤ i → i < block * t + t
+    → eqb i (block * t + getD (columnOrder seed (t * wr) (suc block)) j 0 / wr) ≡ matrixA seed t wr i j
+block-bit seed t wr block i j h g =
+    let q : ℕ = getD (columnOrder seed (t * wr) (suc block)) j 0 / wr in
+    let r : ℕ = i - block * t in
+    let e : block * t + r ≡ i = omega arith in
+    elim (ℕ-discrete q r) [
+      | yes s ↦ eq-eqb i (block * t + q) (omega arith) ∙ sym (eq-eqb q r s)
+      | no s ↦ ne-eqb i (block * t + q) (λ (f : i ≡ block * t + q). s (omega arith)) ∙ sym (ne-eqb q r s)
+    ]
+    ∙ sym (block-row seed t wr block j r (omega arith))
+    ∙ ap (λ (x : ℕ). matrixA seed t wr x j) e
+
+-- ---- block by block
+
+-- the areas are those of A with wc blocks of t rows, wr ones to a row
+pub record Sized (a : Areas) (t wc wr room : ℕ) : Type 0 where
+  pub laid : Laid a room
+  pub columns : a .gross ≡ t * wr
+  pub rows : a .checks ≡ t * wc
+  pub some : 0 < wr
+
+pub sized : {a : Areas} {room : ℕ} (t wc wr : ℕ) → Laid a room × (a .gross ≡ t * wr) × (a .checks ≡ t * wc) × (0 < wr) → Sized a t wc wr room
+sized t wc wr h = record { laid = h .0; columns = h .1; rows = h .2; some = h .3 }
+
+-- The rows of the first blocks are those of A, the others are 0; the numbers are the column order of the last of these blocks, and
+-- the state is that behind its draws.
+pub record BlocksBuilt (a : Areas) (t wr block state : ℕ) (before after : List ℕ) : Type 0 where
+  pub changed : RowsAndNumbers a before after
+  pub states : state ≡ stateAfter (block * a .gross) matrixSeed
+  pub order : numbersAt after (a .numbers) (a .gross) ≡ columnOrder matrixSeed (a .gross) block
+  pub done : (i : ℕ) → i < block * t → i < a .checks → (j : ℕ) → j < a .gross → denseBits after (a .stride) i j ≡ matrixA matrixSeed t wr i j
+  pub rest : (i : ℕ) → block * t ≤ i → i < a .checks → (j : ℕ) → j < a .gross → denseBits after (a .stride) i j ≡ false
+
+pub blocks-start : {a : Areas} {room : ℕ} (t wr : ℕ) {entry cleared counted : List ℕ} → Laid a room
+    → Cleared 0 (a .checks * a .stride) entry cleared → CountedUp (a .numbers) (a .gross) cleared counted
+    → BlocksBuilt a t wr 0 matrixSeed counted counted
+unfolding stateAfter columnOrder
+blocks-start {a} t wr l c n =
+    record {
+      changed = record { long = refl; between = λ i h g. refl; behind = λ i h. refl };
+      states = sym (ap (λ (k : ℕ). stateAfter k matrixSeed) (zero-mul (a .gross)));
+      order = n .counted;
+      done = λ i h. absurd (omega (arith, zero-mul t));
+      rest = λ i h g j k. bits-same l (n .changed) i g j k ∙ bits-cleared l c i g j k;
+    }
+
+module _ {a : Areas} {t wc wr room block state : ℕ} {before work : List ℕ} (s : Sized a t wc wr room)
+    (b : BlocksBuilt a t wr block state before work) where
+  -- a further block ends before the rows do
+  pub block-end : block < wc → block * t + t ≤ a .checks
+  block-end h = omega (arith, s .rows, suc-mul block t, mul-le-mul-right t h, mul-comm t wc)
+
+  -- a column order leads to one of t rows
+  quotient-lt : (k j : ℕ) → j < a .gross → getD (columnOrder matrixSeed (a .gross) k) j 0 / wr < t
+  quotient-lt k j h = div-lt-iff-lt-mul (s .some) .1 (omega (arith, s .columns, order-lt matrixSeed (a .gross) k j h))
+
+  -- the column order is shuffled
+  module _ (mixed : List ℕ) (e : numbersAt mixed (a .numbers) (a .gross) ≡ shuffled 0 state (numbersAt work (a .numbers) (a .gross))) where
+    order-next : numbersAt mixed (a .numbers) (a .gross) ≡ columnOrder matrixSeed (a .gross) (suc block)
+    unfolding columnOrder
+    order-next = e ∙ ap₂ (shuffled 0) (b .states) (b .order)
+
+    pub block-fits : block < wc → BlockFits a wr (block * t) mixed
+    block-fits h =
+        record {
+          some = s .some;
+          inside = λ j g.
+              rw order-next
+              (let low : getD (columnOrder matrixSeed (a .gross) (suc block)) j 0 / wr < t = quotient-lt (suc block) j g in
+              omega (arith, block-end h));
+        }
+
+    -- the block is turned
+    module _ {later : List ℕ} (m : ChangedIn (a .numbers) (a .numbers + 2 * a .gross) work mixed)
+        (d : BlockTurned a wr (block * t) mixed later) where
+      bits-next : (i : ℕ) → i < a .checks → (j : ℕ) → j < a .gross
+          → denseBits later (a .stride) i j
+          ≡ xor (denseBits work (a .stride) i j) (eqb i (block * t + getD (columnOrder matrixSeed (a .gross) (suc block)) j 0 / wr))
+      bits-next i h j g =
+          d .bits i h j g
+          ∙ ap₂ (λ (x : Bool) (o : List ℕ). xor x (eqb i (block * t + getD o j 0 / wr))) (bits-same (s .laid) m i h j g) order-next
+
+      -- rows outside the block stay
+      bits-outside : (i : ℕ) → i < a .checks → (j : ℕ) → j < a .gross → (i < block * t) ⊎ (block * t + t ≤ i)
+          → denseBits later (a .stride) i j ≡ denseBits work (a .stride) i j
+      bits-outside i h j g o =
+          let q : ℕ = getD (columnOrder matrixSeed (a .gross) (suc block)) j 0 / wr in
+          let low : q < t = quotient-lt (suc block) j g in
+          bits-next i h j g
+          ∙ ap (xor (denseBits work (a .stride) i j)) (ne-eqb i (block * t + q) (λ (f : i ≡ block * t + q). ⊎-elim (λ x. omega arith) (λ x. omega arith) o))
+          ∙ xor-none (denseBits work (a .stride) i j)
+
+      -- rows of the block are those of A
+      bits-inside : (i : ℕ) → i < a .checks → (j : ℕ) → j < a .gross → block * t ≤ i → i < block * t + t
+          → denseBits later (a .stride) i j ≡ matrixA matrixSeed t wr i j
+      bits-inside i h j g from to =
+          let f : ℕ → Bool = λ n. eqb i (block * t + getD (columnOrder matrixSeed n (suc block)) j 0 / wr) in
+          bits-next i h j g
+          ∙ ap₂ xor (b .rest i from h j g) (ap f (s .columns) ∙ block-bit matrixSeed t wr block i j from to)
+          ∙ none-xor (matrixA matrixSeed t wr i j)
+
+      pub blocks-next : {next : ℕ} → next ≡ stateAfter (a .gross) state → BlocksBuilt a t wr (block + 1) next before later
+      blocks-next {next} f =
+          let more : (block + 1) * t ≡ block * t + t = ap (λ (k : ℕ). k * t) (add-one block) ∙ suc-mul block t in
+          record {
+            changed = both-then (b .changed) (both-then (changed-numbers (s .laid) m) (changed-rows (s .laid) (d .changed)));
+            states =
+                f
+                ∙ ap (stateAfter (a .gross)) (b .states)
+                ∙ sym (after-add (block * a .gross) (a .gross) matrixSeed)
+                ∙ ap (λ (k : ℕ). stateAfter k matrixSeed) (sym (ap (λ (k : ℕ). k * a .gross) (add-one block) ∙ suc-mul block (a .gross)));
+            order =
+                numbers-same mixed later (a .numbers) (a .gross) (λ i h g. d .changed .behind i (omega (arith, rows-first (s .laid))))
+                ∙ order-next
+                ∙ ap (columnOrder matrixSeed (a .gross)) (sym (add-one block));
+            done = λ i k h j g.
+                elim (decLt i (block * t)) [
+                  | yes o ↦ bits-outside i h j g (inl o) ∙ b .done i o h j g
+                  | no o ↦ bits-inside i h j g (omega arith) (omega arith)
+                ];
+            rest = λ i k h j g. bits-outside i h j g (inr (omega arith)) ∙ b .rest i (omega arith) h j g;
+          }
+
+  -- the last block is built
+  pub blocks-done : {entry cleared : List ℕ} → Cleared 0 (a .checks * a .stride) entry cleared → CountedUp (a .numbers) (a .gross) cleared before
+      → wc ≤ block → Built a t wr entry work
+  blocks-done c n h =
+      let all : wc * t ≤ block * t = mul-le-mul-right t h in
+      record {
+        changed = both-then (changed-rows (s .laid) (c .changed)) (both-then (changed-numbers (s .laid) (n .changed)) (b .changed));
+        bits = λ i k j g. b .done i (omega (arith, s .rows, mul-comm t wc)) k j g;
+      }

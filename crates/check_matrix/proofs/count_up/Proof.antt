@@ -1,0 +1,62 @@
+-- `check_matrix::count_up` meets its contract: the invariant is how many of the numbers are stored. Assumes nothing.
+use Prim.Native.Nat.{_-_}
+use native.Mathlib.Omega.{arith}
+use borrow.Author.Needs.{needs}
+use Rattle.check_matrix.proofs.Counting.{CountingUp, counting-start, counting-next, counting-done}
+use Rattle.check_matrix.proofs.count_up.Statement.{statement}
+use Rattle.check_matrix.proofs.count_up.Tie as tie
+
+abbrev Inv-loop : tie.InvT-loop
+Inv-loop work₀ at n j₀ work j = CountingUp at n j work₀ work
+
+abbrev μ-loop : tie.MeasureT-loop
+μ-loop work₀ at n j₀ work j = n - j
+
+loop-holds : tie.Need-loop-holds Inv-loop μ-loop
+loop-holds c =
+    let p = c .before .args in
+    counting-start (p .at) (p .n) (p .work .now)
+
+mul-put-number : tie.Need-mul-put-number Inv-loop μ-loop
+mul-put-number c = search needs
+
+add-put-number : tie.Need-add-put-number Inv-loop μ-loop
+add-put-number c = search needs
+
+put-number-requires : tie.Need-put-number-requires Inv-loop μ-loop
+put-number-requires c κs =
+    let same = c .before .before .loop .inv .changed .long in
+    (omega (arith, same), omega arith)
+
+add-j : tie.Need-add-j Inv-loop μ-loop
+add-j c = search needs
+
+loop-less : tie.Need-loop-less Inv-loop μ-loop
+loop-less c = search needs
+
+loop-again : tie.Need-loop-again Inv-loop μ-loop
+loop-again c =
+    counting-next (c .before .before .before .before .before .loop .inv) (c .before .before .before .before .before .before .before .pre .1) (omega arith)
+    (c .before .before .put-number .ensures)
+
+same-length : tie.Need-same-length Inv-loop μ-loop
+same-length c = c .before .loop .inv .changed .long
+
+returns : tie.Need-returns Inv-loop μ-loop
+returns c = counting-done (c .before .loop .inv) (omega arith)
+
+pub count-up-spec : {M : Type 1} → statement M
+count-up-spec =
+    tie.close
+    (tie.spec
+    Inv-loop
+    μ-loop
+    loop-holds
+    mul-put-number
+    add-put-number
+    put-number-requires
+    add-j
+    loop-less
+    loop-again
+    same-length
+    returns)

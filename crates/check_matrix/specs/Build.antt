@@ -1,0 +1,39 @@
+-- The dense rows of A as they are built.
+-- Assumes nothing.
+use Prim.Native.Nat.{ℕ, _+_, _*_, _/_, _<_}
+use mathlib.Core.Path.{_≡_}
+use mathlib.Core.Bool.{xor}
+use mathlib.Core.List.{List}
+use lib.Dec.{eqb}
+use lib.ListN.{getD}
+use Rattle.symbology.specs.Ranges.{tabulate}
+use Rattle.symbology.specs.Matrix.{matrixSeed, matrixA}
+use Rattle.lent.specs.declared.Areas.{Areas}
+use Rattle.lent.specs.Buffer.{numbersAt, ChangedIn, ChangedInBoth}
+use Rattle.dense.specs.Dense.{denseBits}
+
+-- the n numbers from `at` on are 0, 1, .., n - 1
+pub record CountedUp (at n : ℕ) (before after : List ℕ) : Type 0 where
+  pub changed : ChangedIn at (at + 2 * n) before after
+  pub counted : numbersAt after at n ≡ tabulate n (λ j. j)
+
+-- each number of a column order leads to a row of the matrix
+pub record BlockFits (a : Areas) (wr first : ℕ) (work : List ℕ) : Type 0 where
+  pub some : 0 < wr
+  pub inside : (j : ℕ) → j < a .gross → first + getD (numbersAt work (a .numbers) (a .gross)) j 0 / wr < a .checks
+
+-- For each column the bit in one row of the block that begins with row `first` is turned: that in which A0 has its 1 in the column
+-- whose number stands there.
+pub record BlockTurned (a : Areas) (wr first : ℕ) (before after : List ℕ) : Type 0 where
+  pub changed : ChangedIn 0 (a .checks * a .stride) before after
+  pub bits : (i : ℕ)
+      → i < a .checks
+      → (j : ℕ)
+      → j < a .gross
+      → denseBits after (a .stride) i j
+      ≡ xor (denseBits before (a .stride) i j) (eqb i (first + getD (numbersAt before (a .numbers) (a .gross)) j 0 / wr))
+
+-- the rows are those of A; only they and the numbers are changed
+pub record Built (a : Areas) (t wr : ℕ) (before after : List ℕ) : Type 0 where
+  pub changed : ChangedInBoth (a .checks * a .stride) (a .numbers) (a .numbers + 2 * a .gross) before after
+  pub bits : (i : ℕ) → i < a .checks → (j : ℕ) → j < a .gross → denseBits after (a .stride) i j ≡ matrixA matrixSeed t wr i j

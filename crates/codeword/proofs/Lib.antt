@@ -1,0 +1,4 @@
+pub mod Columns
+pub mod Placing
+pub mod Solving
+pub mod Gathering

@@ -1,0 +1,99 @@
+-- `codeword::solve_checks` meets its contract: the check columns up to c are solved. Assumes nothing.
+use Prim.Native.Nat.{ℕ, _-_, _≤_}
+use mathlib.Core.Path.{_≡_, ap, _∙_}
+use mathlib.Core.Logic.{⊎-elim}
+use native.Mathlib.Omega.{arith}
+use borrow.Author.Tests.{le-leb}
+use Rattle.dense.proofs.Dense.{row-gap}
+use Rattle.symbology.specs.Matrix.{checkOf}
+use Rattle.symbology.specs.Rule.{unmet}
+use Rattle.lent.specs.Buffer.{part}
+use Rattle.dense.specs.Dense.{denseBits}
+use Rattle.elimination.specs.Reduced.{rowOf}
+use Rattle.codeword.proofs.Solving.{SolvedTo, solved-start, solved-message, solved-check, solved-as, solved-all}
+use Rattle.codeword.proofs.solve_checks.Statement.{statement}
+use Rattle.codeword.proofs.solve_checks.Tie as tie
+
+abbrev Inv-loop : tie.InvT-loop
+Inv-loop work₀ a k stride word numbers c₀ work c = (c ≤ a .gross) × SolvedTo a work₀ work c
+
+abbrev μ-loop : tie.MeasureT-loop
+μ-loop work₀ a k stride word numbers c₀ work c = a .gross - c
+
+loop-holds : tie.Need-loop-holds Inv-loop μ-loop
+loop-holds c = (omega arith, solved-start (c .before .args .a) (c .before .args .work .now))
+
+mul-number-at : tie.Need-mul-number-at Inv-loop μ-loop
+mul-number-at c = omega (arith, c .before .before .before .before .before .pre .0 .few)
+
+add-number-at : tie.Need-add-number-at Inv-loop μ-loop
+add-number-at c = omega (arith, c .before .before .before .before .before .pre .0 .numbers-end, c .before .before .before .before .before .pre .0 .message-end)
+
+number-at-requires : tie.Need-number-at-requires Inv-loop μ-loop
+number-at-requires c κs = omega (arith, c .before .before .before .loop .inv .1 .changed .long, c .before .before .before .before .before .pre .0 .numbers-end, c .before .before .before .before .before .pre .0 .message-end)
+
+parity-requires : tie.Need-parity-requires Inv-loop μ-loop
+parity-requires c κs =
+    let laid = c .before .before .before .before .before .before .before .before .pre .0 in
+    let a = c .before .before .before .before .before .before .before .before .args .a in
+    let gap = row-gap (c .before .before .number-at .result) (a .checks) (a .stride) (c .before .if2 .taken) in
+    let long = c .before .before .before .before .before .before .loop .inv .1 .changed .long in
+    (laid .wide, omega (arith, gap, long, laid .rows-end, laid .marks-end, laid .word-end, laid .numbers-end, laid .message-end), omega (arith, long, laid .word-end, laid .numbers-end, laid .message-end))
+
+add-work : tie.Need-add-work Inv-loop μ-loop
+add-work c = omega (arith, c .before .before .before .before .before .before .before .before .before .pre .0 .word-end, c .before .before .before .before .before .before .before .before .before .pre .0 .numbers-end, c .before .before .before .before .before .before .before .before .before .pre .0 .message-end)
+
+slice-write-work : tie.Need-slice-write-work Inv-loop μ-loop
+slice-write-work c = omega (arith, c .before .before .before .before .before .before .before .loop .inv .1 .changed .long, c .before .before .before .before .before .before .before .before .before .pre .0 .word-end, c .before .before .before .before .before .before .before .before .before .pre .0 .numbers-end, c .before .before .before .before .before .before .before .before .before .pre .0 .message-end)
+
+add-c : tie.Need-add-c Inv-loop μ-loop
+add-c c = omega (arith, c .before .before .before .before .before .before .before .pre .0 .few)
+
+loop-less : tie.Need-loop-less Inv-loop μ-loop
+loop-less c = omega arith
+
+loop-again : tie.Need-loop-again Inv-loop μ-loop
+loop-again c =
+    let a = c .before .before .before .before .before .before .before .args .a in
+    let l = c .before .before .before .before .before .loop in
+    let laid = c .before .before .before .before .before .before .before .pre .0 in
+    let number : c .before .number-at .result ≡ rowOf a (l .work) (l .c) = c .before .number-at .ensures .0 in
+    ⊎-elim
+    (λ way. (
+      omega arith,
+      solved-as
+          (solved-check laid (l .inv .1) (omega arith) (c .before .before .before .before .before .before .before .pre .1) (omega (arith, way .0 .taken, number)) (way .2 .result)
+          (way .2 .ensures ∙ ap (λ (i : ℕ). unmet (checkOf (a .gross) (denseBits (l .work) (a .stride)) i) (part (l .work) (a .word) (a .gross))) number))
+          (way .3),
+    ))
+    (λ way. (
+      omega arith,
+      solved-as
+          (solved-message laid (l .inv .1) (omega arith) (le-leb (a .checks) (rowOf a (l .work) (l .c)) (omega (arith, way .0 .left, number)))) (way .1),
+    ))
+    (c .if2 .came)
+
+same-length : tie.Need-same-length Inv-loop μ-loop
+same-length c = c .before .before .loop .inv .1 .changed .long
+
+returns : tie.Need-returns Inv-loop μ-loop
+returns c = let e : c .before .before .loop .c ≡ c .before .before .before .before .args .a .gross = omega arith in solved-all (rw e at (c .before .before .loop .inv .1))
+
+pub solve-checks-spec : {M : Type 1} → statement M
+solve-checks-spec =
+    tie.close
+    (tie.spec
+    Inv-loop
+    μ-loop
+    loop-holds
+    mul-number-at
+    add-number-at
+    number-at-requires
+    parity-requires
+    add-work
+    slice-write-work
+    add-c
+    loop-less
+    loop-again
+    same-length
+    returns)

@@ -1,0 +1,76 @@
+-- Message and check columns of the work buffer, as the numbers of an elimination tell them apart, and words stored and read by them.
+-- Assumes nothing.
+use Prim.Native.Nat.{ℕ, _+_, _<_}
+use mathlib.Core.Path.{_≡_}
+use mathlib.Core.Bool.{Bool, false, cond}
+use mathlib.Core.List.{List, map}
+use lib.Dec.{leb}
+use lib.ListN.{length, getD, take, drop}
+use Rattle.symbology.specs.Bits.{anyOne}
+use Rattle.symbology.specs.Ranges.{those}
+use Rattle.symbology.specs.Matrix.{BitMatrix, checkOf}
+use Rattle.symbology.specs.Rule.{unmet}
+use Rattle.symbology.specs.Codeword.{codeword, messageBits}
+use Rattle.lent.specs.declared.Areas.{Areas}
+use Rattle.lent.specs.Buffer.{part, ChangedIn}
+use Rattle.dense.specs.Dense.{denseBits}
+use Rattle.elimination.specs.Reduced.{rowOf, EliminatedFrom}
+
+-- a column without a row is a message column
+abbrev pub isMessage : Areas → List ℕ → ℕ → Bool
+isMessage a work j = leb (a .checks) (rowOf a work j)
+
+-- the row of a check column has 0 in the other check columns
+abbrev pub RowsApart : Areas → List ℕ → Type 0
+RowsApart a work =
+    (c d : ℕ)
+    → c < a .gross
+    → d < a .gross
+    → rowOf a work c < a .checks
+    → rowOf a work d < a .checks
+    → (c ≡ d → ⊥)
+    → denseBits work (a .stride) (rowOf a work c) d ≡ false
+
+-- the net bits stand in the message columns, ascending, and 0 in the other columns
+pub record Placed (a : Areas) (before after : List ℕ) : Type 0 where
+  pub changed : ChangedIn (a .word) (a .word + a .gross) before after
+  pub placed : (j : ℕ)
+      → j < a .gross
+      → getD after (a .word + j) 0
+      ≡ cond (isMessage a before j) (getD (part before (a .message) (a .net)) (length (those j (isMessage a before))) 0) 0
+
+-- each check column holds the parity of its row over the word before
+pub record Solved (a : Areas) (before after : List ℕ) : Type 0 where
+  pub changed : ChangedIn (a .word) (a .word + a .gross) before after
+  pub solved : (c : ℕ)
+      → c < a .gross
+      → getD after (a .word + c) 0
+      ≡ cond (isMessage a before c) (getD before (a .word + c) 0)
+      (unmet (checkOf (a .gross) (denseBits before (a .stride)) (rowOf a before c)) (part before (a .word) (a .gross)))
+
+-- the word is the codeword of the net bits, for the matrix whose elimination the buffer holds
+pub record WordFilled (a : Areas) (before after : List ℕ) : Type 0 where
+  pub changed : ChangedIn (a .word) (a .word + a .gross) before after
+  pub word-is : (m : BitMatrix)
+      → EliminatedFrom a m 0 before
+      → part after (a .word) (a .gross) ≡ codeword (a .checks) (a .gross) m (part before (a .message) (a .net))
+
+-- the bits of the word in the message columns
+abbrev pub gatheredBits : Areas → List ℕ → List ℕ
+gatheredBits a work = map (λ j. getD (part work (a .word) (a .gross)) j 0) (those (a .gross) (isMessage a work))
+
+-- the first of these bits stand as the net bits, and `spare` tells whether another one is 1
+pub record Gathered (a : Areas) (before after : List ℕ) (spare : Bool) : Type 0 where
+  pub changed : ChangedIn (a .message) (a .message + a .net) before after
+  pub stored : (i : ℕ) → i < a .net → i < length (gatheredBits a before) → getD after (a .message + i) 0 ≡ getD (gatheredBits a before) i 0
+  pub spare-is : spare ≡ anyOne (drop (a .net) (gatheredBits a before))
+
+-- the same in terms of the matrix whose elimination the buffer holds
+pub record MessageRead (a : Areas) (before after : List ℕ) (spare : Bool) : Type 0 where
+  pub changed : ChangedIn (a .message) (a .message + a .net) before after
+  pub message-is : (m : BitMatrix)
+      → EliminatedFrom a m 0 before
+      → part after (a .message) (a .net) ≡ take (a .net) (messageBits (a .checks) (a .gross) m (part before (a .word) (a .gross)))
+  pub spare-is : (m : BitMatrix)
+      → EliminatedFrom a m 0 before
+      → spare ≡ anyOne (drop (a .net) (messageBits (a .checks) (a .gross) m (part before (a .word) (a .gross))))

@@ -1,0 +1,99 @@
+// Codewords in the work buffer, where its rows are eliminated: the net bits stored in the message columns
+// and the check columns solved, and the message columns of a word read back.
+use lent::Areas;
+ghost use lib.ListN.{length};
+ghost use Rattle.lent.specs.Buffer.{part, Laid};
+ghost use Rattle.codeword.specs.Columns.{RowsApart, Placed, Solved, Gathered, WordFilled, MessageRead};
+ghost use Rattle.symbology.specs.Bits.{AllBits};
+
+// Stores the net bits in the message columns, ascending, and 0 in the spare ones and the check columns.
+fn place_message(work: &mut [u8], a: Areas)
+    requires { ⌜ Laid a (length (now work)) ⌝ }
+    ensures { λ _. ⌜ Placed a (now (work .entry)) (now (work .exit)) ⌝ }
+{
+    let k = a.checks;
+    let net = a.net;
+    let word = a.word;
+    let numbers = a.numbers;
+    let message = a.message;
+    let mut m = 0;
+    let mut j = 0;
+    while j < a.gross {
+        let mut v = 0;
+        if k <= lent::number_at(work, numbers + 2 * j) {
+            if m < net {
+                v = work[message + m];
+            }
+            m += 1;
+        }
+        work[word + j] = v;
+        j += 1;
+    }
+}
+
+// Stores in each check column the parity of its row over the word. The row has no other check column, and
+// the column's own bit is 0 before.
+fn solve_checks(work: &mut [u8], a: Areas)
+    requires { ⌜ Laid a (length (now work)) × RowsApart a (now work) ⌝ }
+    ensures { λ _. ⌜ Solved a (now (work .entry)) (now (work .exit)) ⌝ }
+{
+    let k = a.checks;
+    let stride = a.stride;
+    let word = a.word;
+    let numbers = a.numbers;
+    let mut c = 0;
+    while c < a.gross {
+        let row = lent::number_at(work, numbers + 2 * c);
+        if row < k {
+            let odd = dense::parity(work, stride, row, a.gross, word);
+            work[word + c] = odd;
+        }
+        c += 1;
+    }
+}
+
+// Stores the codeword of the net bits as the word.
+pub fn fill_word(work: &mut [u8], a: Areas)
+    requires { ⌜ Laid a (length (now work)) × RowsApart a (now work) × AllBits (part (now work) (a .message) (a .net)) ⌝ }
+    ensures { λ _. ⌜ WordFilled a (now (work .entry)) (now (work .exit)) ⌝ }
+{
+    place_message(work, a);
+    solve_checks(work, a);
+}
+
+// Stores the bits of the word in the first message columns as the net bits, and answers whether one in the
+// spare message columns is 1.
+fn gather(work: &mut [u8], a: Areas) -> bool
+    requires { ⌜ Laid a (length (now work)) ⌝ }
+    ensures { λ r. ⌜ Gathered a (now (work .entry)) (now (work .exit)) r ⌝ }
+{
+    let k = a.checks;
+    let net = a.net;
+    let word = a.word;
+    let numbers = a.numbers;
+    let message = a.message;
+    let mut spare = false;
+    let mut m = 0;
+    let mut j = 0;
+    while j < a.gross {
+        if k <= lent::number_at(work, numbers + 2 * j) {
+            let v = work[word + j];
+            if m < net {
+                work[message + m] = v;
+            } else if v % 2 == 1 {
+                spare = true;
+            }
+            m += 1;
+        }
+        j += 1;
+    }
+    spare
+}
+
+// Reads the message columns of the word.
+pub fn read_message(work: &mut [u8], a: Areas) -> bool
+    requires { ⌜ Laid a (length (now work)) ⌝ }
+    ensures { λ r. ⌜ MessageRead a (now (work .entry)) (now (work .exit)) r ⌝ }
+{
+    gather(work, a)
+}

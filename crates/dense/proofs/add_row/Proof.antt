@@ -1,0 +1,76 @@
+-- `dense::add_row` meets its contract: the bytes up to b are added. Assumes nothing.
+use Prim.Native.Nat.{_-_, _≤_}
+use mathlib.Core.Path.{_≡_}
+use native.Mathlib.Omega.{arith}
+use Rattle.dense.proofs.Dense.{AddedTo, added-start, added-next, added-all}
+use Rattle.dense.proofs.add_row.Statement.{statement}
+use Rattle.dense.proofs.add_row.Tie as tie
+
+abbrev Inv-loop : tie.InvT-loop
+Inv-loop xs₀ stride i t to from b₀ xs b = (b ≤ stride) × AddedTo stride i t b xs₀ xs
+
+abbrev μ-loop : tie.MeasureT-loop
+μ-loop xs₀ stride i t to from b₀ xs b = stride - b
+
+mul-to : tie.Need-mul-to Inv-loop μ-loop
+mul-to c = omega arith
+
+mul-from : tie.Need-mul-from Inv-loop μ-loop
+mul-from c = omega arith
+
+loop-holds : tie.Need-loop-holds Inv-loop μ-loop
+loop-holds c = (omega arith, added-start (c .args .stride) (c .args .i) (c .args .t) (c .args .xs .now))
+
+add-xs : tie.Need-add-xs Inv-loop μ-loop
+add-xs c = omega arith
+
+slice-read-xs : tie.Need-slice-read-xs Inv-loop μ-loop
+slice-read-xs c = omega (arith, c .before .before .loop .inv .1 .changed .long)
+
+add-xs-2 : tie.Need-add-xs-2 Inv-loop μ-loop
+add-xs-2 c = omega arith
+
+slice-read-xs-2 : tie.Need-slice-read-xs-2 Inv-loop μ-loop
+slice-read-xs-2 c = omega (arith, c .before .before .before .loop .inv .1 .changed .long)
+
+add-xs-3 : tie.Need-add-xs-3 Inv-loop μ-loop
+add-xs-3 c = omega arith
+
+slice-write-xs : tie.Need-slice-write-xs Inv-loop μ-loop
+slice-write-xs c = omega (arith, c .before .before .before .loop .inv .1 .changed .long)
+
+add-b : tie.Need-add-b Inv-loop μ-loop
+add-b c = omega arith
+
+loop-less : tie.Need-loop-less Inv-loop μ-loop
+loop-less c = omega arith
+
+loop-again : tie.Need-loop-again Inv-loop μ-loop
+loop-again c = (omega arith, added-next (c .before .before .before .loop .inv .1) (c .before .before .before .before .pre .0) (omega arith) (omega arith))
+
+same-length : tie.Need-same-length Inv-loop μ-loop
+same-length c = c .before .loop .inv .1 .changed .long
+
+returns : tie.Need-returns Inv-loop μ-loop
+returns c = let e : c .before .loop .b ≡ c .before .before .args .stride = omega arith in added-all (rw e at (c .before .loop .inv .1))
+
+pub add-row-spec : {M : Type 1} → statement M
+add-row-spec =
+    tie.close
+    (tie.spec
+    Inv-loop
+    μ-loop
+    mul-to
+    mul-from
+    loop-holds
+    add-xs
+    slice-read-xs
+    add-xs-2
+    slice-read-xs-2
+    add-xs-3
+    slice-write-xs
+    add-b
+    loop-less
+    loop-again
+    same-length
+    returns)

@@ -1,0 +1,4 @@
+pub mod Products
+pub mod Backwards
+pub mod LastRule
+pub mod States

@@ -1,0 +1,92 @@
+// The random number generator of 002, Annex E, forwards and backwards, and the place of a draw.
+ghost use Prim.Native.Nat.{_*_, _%_, _^_, _≤_, _<_};
+ghost use mathlib.Core.Path.{_≡_};
+ghost use Rattle.draws.specs.Backwards.{previousState};
+ghost use Rattle.symbology.specs.Generator.{nextState, temper, draw, stateAfter};
+ghost use Rattle.symbology.specs.Place.{placeOf};
+ghost use Rattle.symbology.specs.Shuffle.{drawnPlace};
+
+// The product without its carry, from the products of 32-bit halves. That of the two upper halves
+// is all carry.
+fn wrapping_mul(x: u64, y: u64) -> u64
+    ensures { λ r. ⌜ r ≡ x * y % 2 ^ 64 ⌝ }
+{
+    let x0 = x & 0xffff_ffff;
+    let x1 = x >> 32;
+    let y0 = y & 0xffff_ffff;
+    let y1 = y >> 32;
+    let cross = std::num::wrapping_add_u64(x1 * y0, x0 * y1);
+    std::num::wrapping_add_u64(x0 * y0, cross << 32)
+}
+
+// The state after a state.
+pub fn next_state(s: u64) -> u64
+    ensures { λ r. ⌜ r ≡ nextState s ⌝ }
+{
+    std::num::wrapping_add_u64(wrapping_mul(6364136223846793005, s), 1)
+}
+
+// The state before a state: 1 taken away, and the product with the inverse of the generator's factor.
+pub fn previous_state(s: u64) -> u64
+    ensures { λ r. ⌜ r ≡ previousState s ⌝ }
+{
+    wrapping_mul(
+        13877824140714322085,
+        std::num::wrapping_add_u64(s, 18446744073709551615),
+    )
+}
+
+// The state after n draws.
+pub fn state_after(n: usize, s: u64) -> u64
+    ensures { λ r. ⌜ r ≡ stateAfter n s ⌝ }
+{
+    let mut state = s;
+    let mut left = n;
+    while 0 < left {
+        state = next_state(state);
+        left -= 1;
+    }
+    state
+}
+
+fn temper(x: u32) -> u32
+    ensures { λ r. ⌜ r ≡ temper x ⌝ }
+{
+    let mut y = x;
+    y ^= y >> 11;
+    y ^= y << 7 & 0x9D2C_5680;
+    y ^= y << 15 & 0xEFC6_0000;
+    y ^= y >> 18;
+    y
+}
+
+// The number drawn in a state.
+pub fn draw(s: u64) -> u32
+    ensures { λ r. ⌜ r ≡ draw s ⌝ }
+{
+    temper((s >> 32) as u32)
+}
+
+// The place of a draw with n places left, in single precision: the draw, the quotient and the product
+// are rounded once each. Where their whole part is n, the place is n - 1.
+pub fn place(d: u32, n: u32) -> u32
+    requires { ⌜ (0 < n) × (n ≤ 4096) ⌝ }
+    ensures { λ r. ⌜ (r ≡ placeOf d n) × (r < n) ⌝ }
+{
+    let share = std::num::nearest_u32_to_f32(d) / 4294967296.0;
+    let scaled = share * std::num::nearest_u32_to_f32(n);
+    let whole = std::num::truncating_f32_to_u64(scaled);
+    if whole == n as u64 {
+        n - 1
+    } else {
+        whole as u32
+    }
+}
+
+// The place drawn in a state with n places left.
+pub fn drawn_place(s: u64, n: usize) -> usize
+    requires { ⌜ (0 < n) × (n ≤ 4096) ⌝ }
+    ensures { λ r. ⌜ (r ≡ drawnPlace s n) × (r < n) ⌝ }
+{
+    place(draw(s), n as u32) as usize
+}

@@ -1,0 +1,31 @@
+-- `ldpc::areas` meets its contract. Assumes nothing.
+use mathlib.Core.Path.{refl}
+use Rattle.ldpc.specs.Work.{areasOf}
+use borrow.Author.Needs.{needs}
+use Rattle.ldpc.proofs.areas.Statement.{statement}
+use Rattle.ldpc.proofs.areas.Tie as tie
+
+add-stride : tie.Need-add-stride
+add-stride c = search needs
+
+mul-marks : tie.Need-mul-marks
+mul-marks c = search needs
+
+add-word : tie.Need-add-word
+add-word c = search needs
+
+add-numbers : tie.Need-add-numbers
+add-numbers c = search needs
+
+mul-t6 : tie.Need-mul-t6
+mul-t6 c = search needs
+
+add-t7 : tie.Need-add-t7
+add-t7 c = search needs
+
+returns : tie.Need-returns
+unfolding areasOf
+returns c = refl
+
+pub areas-spec : {M : Type 1} → statement M
+areas-spec = tie.close (tie.spec add-stride mul-marks add-word add-numbers mul-t6 add-t7 returns)

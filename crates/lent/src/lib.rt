@@ -1,0 +1,53 @@
+// Areas of a lent buffer: where those of the work buffer lie, numbers of two bytes, and clearing.
+//
+// Two parts of one buffer cannot be lent at once where one of them is stored to. So the functions of
+// error correction take the whole work buffer and the places of their areas, and each says where it
+// changes the buffer at most.
+ghost use Prim.Native.Nat.{_+_, _≤_, _<_};
+ghost use mathlib.Core.Path.{_≡_};
+ghost use lib.ListN.{length};
+ghost use Rattle.lent.specs.Buffer.{numberAt, storedNumber, Cleared};
+
+// The areas of the work buffer. In front lie the dense rows of a check matrix, `checks` rows of
+// `stride` bytes; behind them `checks` marks of a byte each, from `marks` on; then the word, `gross`
+// bits of a byte each, from `word` on; then `gross` numbers of two bytes each, from `numbers` on; and
+// `net` message bits of a byte each, from `message` on.
+pub struct Areas {
+    pub checks: usize,
+    pub gross: usize,
+    pub net: usize,
+    pub stride: usize,
+    pub marks: usize,
+    pub word: usize,
+    pub numbers: usize,
+    pub message: usize,
+}
+
+// The number of the two bytes at a place, the lower byte first.
+pub fn number_at(xs: &[u8], at: usize) -> usize
+    requires { ⌜ at + 2 ≤ length (now xs) ⌝ }
+    ensures { λ r. ⌜ (r ≡ numberAt (now (xs .entry)) at) × (r < 65536) ⌝ }
+{
+    xs[at] as usize + 256 * (xs[at + 1] as usize)
+}
+
+// Stores a number in the two bytes at a place.
+pub fn put_number(xs: &mut [u8], at: usize, v: usize)
+    requires { ⌜ (at + 2 ≤ length (now xs)) × (v < 65536) ⌝ }
+    ensures { λ _. ⌜ now (xs .exit) ≡ storedNumber (now (xs .entry)) at v ⌝ }
+{
+    xs[at] = (v % 256) as u8;
+    xs[at + 1] = (v / 256) as u8;
+}
+
+// Stores 0 in the places from `from` up to `to`.
+pub fn clear(xs: &mut [u8], from: usize, to: usize)
+    requires { ⌜ (from ≤ to) × (to ≤ length (now xs)) ⌝ }
+    ensures { λ _. ⌜ Cleared from to (now (xs .entry)) (now (xs .exit)) ⌝ }
+{
+    let mut i = from;
+    while i < to {
+        xs[i] = 0;
+        i += 1;
+    }
+}

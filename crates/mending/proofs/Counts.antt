@@ -1,0 +1,197 @@
+-- Counts over the marks of the checks, as loops make them: how many checks are unmet, and in how many a bit stands.
+-- Assumes nothing.
+use Prim.Native.Nat.{ℕ, zero, suc, _+_, _-_, _≤_, _<_}
+use mathlib.Core.Path.{_≡_, refl, sym, ap, ap₂, _∙_}
+use mathlib.Core.Bool.{Bool, true, false, cond}
+use mathlib.Core.List.{List, [], _∷_, _++_}
+use native.Mathlib.Numerals.{add-one}
+use native.Mathlib.Omega.{arith}
+use lib.Dec.{ltb}
+use lib.ListN.{length, getD}
+use borrow.Author.Tests.{lt-ltb, le-ltb}
+use Rattle.symbology.specs.Ranges.{tabulate, those, has, lowest}
+use Rattle.symbology.specs.Matrix.{checkOf, checksOf}
+use Rattle.symbology.specs.Rule.{unmet, unmetCount, unmetAt, metAt, isSuspect, suspect}
+use Rattle.laws.proofs.Ranges.{has-those, lowest-ext}
+use Rattle.laws.proofs.Gf2.{unmetCount-snoc}
+use Rattle.lent.specs.declared.Areas.{Areas}
+use Rattle.lent.specs.Buffer.{Laid}
+use Rattle.lent.proofs.Buffer.{length-part}
+use Rattle.dense.specs.Dense.{denseBits}
+use Rattle.mending.specs.Marks.{wordIn, checksIn, Marked}
+
+-- ---- counts
+
+-- the first i marks, added
+unfoldable pub markSum : List ℕ → ℕ → ℕ → ℕ
+markSum work marks zero = 0
+markSum work marks (suc i) = markSum work marks i + getD work (marks + i) 0
+
+-- among the first i checks, how many that bit j stands in are marked as unmet
+unfoldable pub unmetWith : List ℕ → ℕ → ℕ → ℕ → ℕ → ℕ
+unmetWith work stride marks j zero = 0
+unmetWith work stride marks j (suc i) = unmetWith work stride marks j i + cond (denseBits work stride i j) (getD work (marks + i) 0) 0
+
+-- among the first i checks, how many that bit j stands in are marked as met
+unfoldable pub metWith : List ℕ → ℕ → ℕ → ℕ → ℕ → ℕ
+metWith work stride marks j zero = 0
+metWith work stride marks j (suc i) = metWith work stride marks j i + cond (denseBits work stride i j) (1 - getD work (marks + i) 0) 0
+
+-- by their marks, bit j stands in more unmet than met ones of k checks
+unfoldable pub suspectBy : List ℕ → ℕ → ℕ → ℕ → ℕ → Bool
+suspectBy work k stride marks j = ltb (metWith work stride marks j k) (unmetWith work stride marks j k)
+
+-- ---- the unmet checks as a loop counts them
+
+-- the first i of k marks are added
+pub record Summed (work : List ℕ) (k marks n i : ℕ) : Type 0 where
+  pub most : i ≤ k
+  pub few : n ≤ i
+  pub sum : n ≡ markSum work marks i
+
+pub summed-start : (work : List ℕ) (k marks : ℕ) → Summed work k marks 0 0
+unfolding markSum
+summed-start work k marks = record { most = omega arith; few = omega arith; sum = refl }
+
+pub summed-next : {work : List ℕ} {k marks n i : ℕ} → Summed work k marks n i → i < k → getD work (marks + i) 0 ≤ 1
+    → Summed work k marks (n + getD work (marks + i) 0) (i + 1)
+unfolding markSum
+summed-next {work} {k} {marks} {n} {i} s l b =
+    record { most = omega arith; few = omega (arith, s .few); sum = rw (add-one i) (omega (arith, s .sum)) }
+
+-- ---- the checks that a bit stands in, as a loop counts them
+
+-- the first i of k checks are passed, of which bit j stands in so many unmet and met ones
+pub record Passed (work : List ℕ) (k stride marks j unmets mets i : ℕ) : Type 0 where
+  pub most : i ≤ k
+  pub few : unmets + mets ≤ i
+  pub unmets-are : unmets ≡ unmetWith work stride marks j i
+  pub mets-are : mets ≡ metWith work stride marks j i
+
+pub passed-start : (work : List ℕ) (k stride marks j : ℕ) → Passed work k stride marks j 0 0 0
+unfolding unmetWith metWith
+passed-start work k stride marks j = record { most = omega arith; few = omega arith; unmets-are = refl; mets-are = refl }
+
+module _ {work : List ℕ} {k stride marks j unmets mets i : ℕ} (s : Passed work k stride marks j unmets mets i) where
+  -- the bit stands in an unmet check
+  pub passed-unmet : {u m : ℕ} → i < k → denseBits work stride i j ≡ true → getD work (marks + i) 0 ≡ 1 → u ≡ unmets + 1 → m ≡ mets
+      → Passed work k stride marks j u m (i + 1)
+  unfolding unmetWith metWith
+  passed-unmet l e b p q =
+      record {
+        most = omega arith;
+        few = omega (arith, s .few);
+        unmets-are = rw (add-one i, e) (omega (arith, s .unmets-are));
+        mets-are = rw (add-one i, e) (omega (arith, s .mets-are));
+      }
+
+  -- it stands in a met one
+  pub passed-met : {u m : ℕ} → i < k → denseBits work stride i j ≡ true → getD work (marks + i) 0 ≡ 0 → u ≡ unmets → m ≡ mets + 1
+      → Passed work k stride marks j u m (i + 1)
+  unfolding unmetWith metWith
+  passed-met l e b p q =
+      record {
+        most = omega arith;
+        few = omega (arith, s .few);
+        unmets-are = rw (add-one i, e) (omega (arith, s .unmets-are));
+        mets-are = rw (add-one i, e) (omega (arith, s .mets-are));
+      }
+
+  -- it does not stand in the check
+  pub passed-other : {u m : ℕ} → i < k → denseBits work stride i j ≡ false → u ≡ unmets → m ≡ mets
+      → Passed work k stride marks j u m (i + 1)
+  unfolding unmetWith metWith
+  passed-other l e p q =
+      record {
+        most = omega arith;
+        few = omega (arith, s .few);
+        unmets-are = rw (add-one i, e) (omega (arith, s .unmets-are));
+        mets-are = rw (add-one i, e) (omega (arith, s .mets-are));
+      }
+
+  -- all checks are passed: the bit stands in more unmet than met ones
+  pub passed-suspect : i ≡ k → mets < unmets → suspectBy work k stride marks j ≡ true
+  unfolding suspectBy
+  passed-suspect e h =
+      lt-ltb (metWith work stride marks j k) (unmetWith work stride marks j k)
+      (rw (← e) (omega (arith, s .unmets-are, s .mets-are)))
+
+  -- all checks are passed: it does not
+  pub passed-unsuspected : i ≡ k → unmets ≤ mets → suspectBy work k stride marks j ≡ false
+  unfolding suspectBy
+  passed-unsuspected e h =
+      le-ltb (metWith work stride marks j k) (unmetWith work stride marks j k)
+      (rw (← e) (omega (arith, s .unmets-are, s .mets-are)))
+
+-- ---- the counts are those of the rule
+
+unmetAt-snoc : (cs : List (List ℕ)) (c w : List ℕ) (j : ℕ) → unmetAt (cs ++ (c ∷ [])) w j ≡ unmetAt cs w j + cond (has j c) (unmet c w) 0
+unfolding unmetAt
+unmetAt-snoc [] c w j = omega arith
+unmetAt-snoc (x ∷ cs) c w j = omega (arith, unmetAt-snoc cs c w j)
+
+metAt-snoc : (cs : List (List ℕ)) (c w : List ℕ) (j : ℕ) → metAt (cs ++ (c ∷ [])) w j ≡ metAt cs w j + cond (has j c) (1 - unmet c w) 0
+unfolding metAt
+metAt-snoc [] c w j = omega arith
+metAt-snoc (x ∷ cs) c w j = omega (arith, metAt-snoc cs c w j)
+
+-- A check is unmet or met.
+pub unmet-bit : (c w : List ℕ) → unmet c w ≤ 1
+unfolding unmet
+unmet-bit c w = omega arith
+
+module _ (a : Areas) (work : List ℕ) (marked : Marked a work) where
+  count-to : (i : ℕ) → i ≤ a .checks
+      → markSum work (a .marks) i ≡ unmetCount (checksOf i (a .gross) (denseBits work (a .stride))) (wordIn a work)
+  unfolding markSum checksOf tabulate unmetCount
+  count-to zero h = refl
+  count-to (suc i) h =
+      let c : List ℕ = checkOf (a .gross) (denseBits work (a .stride)) i in
+      let cs : List (List ℕ) = tabulate i (checkOf (a .gross) (denseBits work (a .stride))) in
+      ap₂ _+_ (count-to i (omega arith)) (marked i (omega arith)) ∙ sym (unmetCount-snoc cs c (wordIn a work))
+
+  -- The marks add to the unmet count.
+  pub count-marks : markSum work (a .marks) (a .checks) ≡ unmetCount (checksIn a work) (wordIn a work)
+  count-marks = count-to (a .checks) (omega arith)
+
+  -- Each mark is 0 or 1.
+  pub mark-bit : (i : ℕ) → i < a .checks → getD work (a .marks + i) 0 ≤ 1
+  mark-bit i h = omega (arith, marked i h, unmet-bit (checkOf (a .gross) (denseBits work (a .stride)) i) (wordIn a work))
+
+  module _ (j : ℕ) (inside : j < a .gross) where
+    unmets-to : (i : ℕ) → i ≤ a .checks
+        → unmetWith work (a .stride) (a .marks) j i ≡ unmetAt (checksOf i (a .gross) (denseBits work (a .stride))) (wordIn a work) j
+    unfolding unmetWith checksOf checkOf tabulate unmetAt
+    unmets-to zero h = refl
+    unmets-to (suc i) h =
+        let c : List ℕ = those (a .gross) (denseBits work (a .stride) i) in
+        let cs : List (List ℕ) = tabulate i (checkOf (a .gross) (denseBits work (a .stride))) in
+        ap₂ _+_ (unmets-to i (omega arith))
+        (ap₂ (λ (t : Bool) (x : ℕ). cond t x 0) (sym (has-those (denseBits work (a .stride) i) (a .gross) j inside)) (marked i (omega arith)))
+        ∙ sym (unmetAt-snoc cs c (wordIn a work) j)
+
+    mets-to : (i : ℕ) → i ≤ a .checks
+        → metWith work (a .stride) (a .marks) j i ≡ metAt (checksOf i (a .gross) (denseBits work (a .stride))) (wordIn a work) j
+    unfolding metWith checksOf checkOf tabulate metAt
+    mets-to zero h = refl
+    mets-to (suc i) h =
+        let c : List ℕ = those (a .gross) (denseBits work (a .stride) i) in
+        let cs : List (List ℕ) = tabulate i (checkOf (a .gross) (denseBits work (a .stride))) in
+        ap₂ _+_ (mets-to i (omega arith))
+        (ap₂ (λ (t : Bool) (x : ℕ). cond t (1 - x) 0) (sym (has-those (denseBits work (a .stride) i) (a .gross) j inside)) (marked i (omega arith)))
+        ∙ sym (metAt-snoc cs c (wordIn a work) j)
+
+    -- A bit is suspect by the marks exactly where it is.
+    suspect-same : suspectBy work (a .checks) (a .stride) (a .marks) j ≡ isSuspect (checksIn a work) (wordIn a work) j
+    unfolding suspectBy isSuspect
+    suspect-same = ap₂ ltb (mets-to (a .checks) (omega arith)) (unmets-to (a .checks) (omega arith))
+
+  -- The lowest suspect bit by the marks is that of the rule.
+  pub suspect-by : Laid a (length work)
+      → lowest (suspectBy work (a .checks) (a .stride) (a .marks)) (a .gross) 0 ≡ suspect (checksIn a work) (wordIn a work)
+  unfolding suspect
+  suspect-by laid =
+      let f : ℕ → Bool = suspectBy work (a .checks) (a .stride) (a .marks) in
+      let g : ℕ → Bool = isSuspect (checksIn a work) (wordIn a work) in
+      lowest-ext f g (a .gross) 0 (λ j h l. suspect-same j (omega arith))
+      ∙ ap (λ (n : ℕ). lowest g n 0) (sym (length-part work (a .word) (a .gross) (omega arith)))

@@ -1,0 +1,168 @@
+-- The rule's run as a loop makes it: what is left of the run from the received word is the run from the word now.
+-- Assumes nothing.
+use Prim.Native.Nat.{ℕ, suc, _+_, _≤_, _<_}
+use mathlib.Core.Path.{_≡_, refl, sym, ap, ap₂, _∙_, subst⁻¹}
+use mathlib.Core.Bool.{false}
+use mathlib.Core.List.{List, [], _∷_}
+use mathlib.Core.Logic.{_⊎_, inl, inr, ⊎-elim}
+use native.Mathlib.Omega.{arith}
+use lib.Dec.{ltb}
+use lib.ListN.{length}
+use borrow.Author.Tests.{ne-eqb}
+use Rattle.symbology.specs.Bits.{AllBits}
+use Rattle.symbology.specs.Matrix.{BitMatrix, checkOf, checksOf}
+use Rattle.symbology.specs.Rule.{unmetCount, suspect, turned, ends, repairsOf, lastWord, stuck}
+use Rattle.symbology.specs.Mending.{Ended}
+use Rattle.laws.proofs.Ranges.{length-tabulate}
+use Rattle.laws.proofs.Rule.{AllOnce, checks-once, turned-bits, step-lowers, suspect-to, suspect-lowest, suspect-none, ended-ends}
+use Rattle.laws.proofs.Steps.{run-ends, run-goes}
+use Rattle.laws.proofs.Agree.{checks-same}
+use Rattle.lent.specs.declared.Areas.{Areas}
+use Rattle.lent.specs.Buffer.{ChangedIn, Laid}
+use Rattle.lent.proofs.Buffer.{length-part, changed-none, changed-then}
+use Rattle.dense.specs.Dense.{denseBits}
+use Rattle.mending.specs.Marks.{wordIn, checksIn, BitsIn, Marked, WordMarked, BitTurned, MendedBy}
+use Rattle.mending.proofs.Counts.{unmet-bit}
+use Rattle.mending.proofs.Marks.{bits-kept, word-kept}
+
+-- ---- over words
+
+-- the run from a word has come to another, in which `left` checks are unmet
+pub record RunTo (cs : List (List ℕ)) (from now : List ℕ) (left repairs : ℕ) : Type 0 where
+  pub bits : AllBits now
+  pub left-is : left ≡ unmetCount cs now
+  pub repairs-more : repairs + length (repairsOf cs now) ≡ length (repairsOf cs from)
+  pub same-last : lastWord cs now ≡ lastWord cs from
+  pub bounded : repairs + left ≤ unmetCount cs from
+
+goes-on : (cs : List (List ℕ)) (w : List ℕ) → 0 < unmetCount cs w → suspect cs w < length w → ends cs w ≡ false
+unfolding ends
+goes-on cs w h g = rw (ne-eqb (unmetCount cs w) 0 (λ e. omega arith), ne-eqb (suspect cs w) (length w) (λ e. omega arith)) refl
+
+module _ {cs : List (List ℕ)} {from now : List ℕ} {left repairs : ℕ} (r : RunTo cs from now left repairs) where
+  -- the suspect bit is turned: fewer checks are unmet
+  run-next : {later : List ℕ} {fewer next : ℕ} → AllOnce cs → 0 < left → suspect cs now < length now
+      → later ≡ turned now (suspect cs now) → fewer ≡ unmetCount cs later → next ≡ repairs + 1
+      → RunTo cs from later fewer next × (fewer < left)
+  run-next {later} once h inside e f g =
+      let j : ℕ = suspect cs now in
+      let less : unmetCount cs later < unmetCount cs now =
+      rw e (step-lowers cs now j once (r .bits) inside (suspect-lowest cs now inside .suspected)) in
+      let more : (repairsOf cs now ≡ j ∷ repairsOf cs later) × (lastWord cs now ≡ lastWord cs later) =
+      rw e (run-goes cs now once (r .bits) (goes-on cs now (omega (arith, r .left-is)) inside)) in
+      let one : length (repairsOf cs now) ≡ suc (length (repairsOf cs later)) = ap length (more .0) in (
+        record {
+          bits = subst⁻¹ AllBits e (turned-bits now j (r .bits));
+          left-is = f;
+          repairs-more = omega (arith, r .repairs-more);
+          same-last = sym (more .1) ∙ r .same-last;
+          bounded = omega (arith, r .left-is, r .bounded);
+        },
+        omega (arith, r .left-is),
+      )
+
+  -- the rule ends
+  run-done : Ended cs now → (now ≡ lastWord cs from) × (repairs ≡ length (repairsOf cs from))
+  run-done e =
+      let over : (repairsOf cs now ≡ []) × (lastWord cs now ≡ now) = run-ends cs now (ended-ends cs now e) in
+      let none : length (repairsOf cs now) ≡ 0 = ap length (over .0) in
+      (sym (over .1) ∙ r .same-last, omega (arith, r .repairs-more))
+
+-- ---- over the work buffer
+
+count-length : (cs : List (List ℕ)) (w : List ℕ) → unmetCount cs w ≤ length cs
+unfolding unmetCount
+count-length [] w = omega arith
+count-length (c ∷ cs) w = omega (arith, unmet-bit c w, count-length cs w)
+
+-- No more checks are unmet than there are rows.
+count-few : (k n : ℕ) (a : BitMatrix) (w : List ℕ) → unmetCount (checksOf k n a) w ≤ k
+unfolding checksOf
+count-few k n a w = omega (arith, count-length (checksOf k n a) w, length-tabulate k (checkOf n a))
+
+-- the checks are kept where the rows are
+checks-kept : {a : Areas} {room to : ℕ} {before after : List ℕ} → Laid a room → ChangedIn (a .marks) to before after
+    → checksIn a after ≡ checksIn a before
+checks-kept {a} {before = before} {after = after} laid c =
+    checks-same (a .checks) (a .gross) (denseBits after (a .stride)) (denseBits before (a .stride)) (bits-kept laid c)
+
+-- the areas lie in the buffer as before
+pub laid-kept : {a : Areas} {from to : ℕ} {before after : List ℕ} → ChangedIn from to before after → Laid a (length before)
+    → Laid a (length after)
+laid-kept {a} c laid = subst⁻¹ (Laid a) (c .long) laid
+
+-- the run over the buffer, from its marked state on
+pub record MendedTo (a : Areas) (start work : List ℕ) (left repairs : ℕ) : Type 0 where
+  pub laid : Laid a (length work)
+  pub changed : ChangedIn (a .marks) (a .word + a .gross) start work
+  pub marked : Marked a work
+  pub run : RunTo (checksIn a start) (wordIn a start) (wordIn a work) left repairs
+
+-- it starts with the checks marked
+pub mended-start : {a : Areas} {before start : List ℕ} {left : ℕ} → Laid a (length before) → BitsIn a before → WordMarked a before start
+    → left ≡ unmetCount (checksIn a start) (wordIn a start) → MendedTo a start start left 0
+mended-start {a} {start = start} laid bits m e =
+    record {
+      laid = laid-kept (m .changed) laid;
+      changed = changed-none (a .marks) (a .word + a .gross) start;
+      marked = m .marked;
+      run = record {
+        bits = subst⁻¹ AllBits (word-kept laid (m .changed)) bits;
+        left-is = e;
+        repairs-more = omega arith;
+        same-last = refl;
+        bounded = omega arith;
+      };
+    }
+
+module _ {a : Areas} {start work : List ℕ} {left repairs : ℕ} (m : MendedTo a start work left repairs) where
+  long : length (wordIn a work) ≡ a .gross
+  long = length-part work (a .word) (a .gross) (omega (arith, m .laid))
+
+  -- the search for the suspect bit ends no later than the word
+  pub suspect-most : {j : ℕ} → j ≡ suspect (checksIn a work) (wordIn a work) → j ≤ a .gross
+  suspect-most e = omega (arith, suspect-to (checksIn a work) (wordIn a work), long)
+
+  -- while a check is unmet, the repairs are fewer than the checks that there can be
+  pub repairs-few : 0 < left → repairs < 4096
+  repairs-few h =
+      omega (arith, m .laid, m .run .bounded, count-few (a .checks) (a .gross) (denseBits start (a .stride)) (wordIn a start))
+
+  -- the suspect bit is turned: fewer checks are unmet
+  pub mended-next : {j fewer next : ℕ} {later : List ℕ} → 0 < left → j < a .gross → j ≡ suspect (checksIn a work) (wordIn a work)
+      → BitTurned a j work later → fewer ≡ unmetCount (checksIn a later) (wordIn a later) → next ≡ repairs + 1
+      → MendedTo a start later fewer next × (fewer < left)
+  mended-next {j} {later = later} h inside e t f g =
+      let w : List ℕ = wordIn a work in
+      let changes : ChangedIn (a .marks) (a .word + a .gross) start later = changed-then (m .changed) (t .changed) (omega arith) (omega arith) in
+      let found : j ≡ suspect (checksIn a start) w = e ∙ ap (λ (cs : List (List ℕ)). suspect cs w) (checks-kept (m .laid) (m .changed)) in
+      let goes = run-next (m .run) (checks-once (a .checks) (a .gross) (denseBits start (a .stride)))
+      h (omega (arith, found, long))
+      (t .word-is ∙ ap (turned w) found)
+      (f ∙ ap (λ (cs : List (List ℕ)). unmetCount cs (wordIn a later)) (checks-kept (m .laid) changes)) g in
+      (record { laid = laid-kept (t .changed) (m .laid); changed = changes; marked = t .marked; run = goes .0 }, goes .1)
+
+  -- the rule ends: no check is unmet, or no bit is suspect
+  pub mended-all : {before : List ℕ} {first : ℕ} → Laid a (length before) → WordMarked a before start
+      → first ≡ unmetCount (checksIn a start) (wordIn a start) → (left ≡ 0) ⊎ (suspect (checksIn a work) (wordIn a work) ≡ a .gross)
+      → MendedBy a before work repairs first (ltb 0 left)
+  unfolding stuck
+  mended-all {before} laid k e over =
+      let cs : List (List ℕ) = checksIn a start in
+      let w : List ℕ = wordIn a work in
+      let checks : cs ≡ checksIn a before = checks-kept laid (k .changed) in
+      let word : wordIn a start ≡ wordIn a before = word-kept laid (k .changed) in
+      let same : checksIn a work ≡ cs = checks-kept laid (m .changed) in
+      let ended : Ended cs w =
+      ⊎-elim (λ none. inl (omega (arith, m .run .left-is)))
+      (λ none. inr (suspect-none cs w (sym (ap (λ (c : List (List ℕ)). suspect c w) same) ∙ none ∙ sym long))) over in
+      let done : (w ≡ lastWord cs (wordIn a start)) × (repairs ≡ length (repairsOf cs (wordIn a start))) = run-done (m .run) ended in
+      record {
+        changed = changed-then (changed-then (changed-none (a .marks) (a .word + a .gross) before) (k .changed) (omega arith) (omega arith))
+            (m .changed) (omega arith) (omega arith);
+        word-is = done .0 ∙ ap₂ lastWord checks word;
+        repairs-are = done .1 ∙ ap₂ (λ (c : List (List ℕ)) (v : List ℕ). length (repairsOf c v)) checks word;
+        first-is = e ∙ ap₂ unmetCount checks word;
+        bounded = omega (arith, m .run .bounded);
+        stuck-is = ap (ltb 0) (m .run .left-is ∙ ap (unmetCount cs) (done .0)) ∙ ap₂ stuck checks word;
+      }

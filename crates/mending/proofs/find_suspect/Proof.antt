@@ -1,0 +1,104 @@
+-- `mending::find_suspect` meets its contract: no bit before j is suspect, and j's checks up to i are counted. Assumes nothing.
+use Prim.Native.Nat.{ℕ, _-_}
+use mathlib.Core.Path.{sym, _∙_}
+use mathlib.Core.Bool.{Bool}
+use mathlib.Core.Logic.{⊎-elim}
+use native.Mathlib.Omega.{arith}
+use Rattle.laws.proofs.Search.{SearchFrom, search-start, search-next, search-found, search-none}
+use Rattle.mending.proofs.Counts.{suspectBy, Passed, passed-start, passed-unmet, passed-met, passed-other, passed-suspect, passed-unsuspected, mark-bit, suspect-by}
+use Rattle.mending.proofs.Marks.{bit-inside}
+use Rattle.mending.proofs.find_suspect.Statement.{statement}
+use Rattle.mending.proofs.find_suspect.Tie as tie
+
+abbrev Inv-loop : tie.InvT-loop
+Inv-loop work k n stride marks j unmet₀ met₀ i₀ unmet met i = Passed work k stride marks j unmet met i
+
+abbrev μ-loop : tie.MeasureT-loop
+μ-loop work k n stride marks j unmet₀ met₀ i₀ unmet met i = k - i
+
+abbrev Inv-bits : tie.InvT-bits
+Inv-bits work k n stride marks j₀ j = SearchFrom (suspectBy work k stride marks) n j
+
+abbrev μ-bits : tie.MeasureT-bits
+μ-bits work k n stride marks j₀ j = n - j
+
+bits-holds : tie.Need-bits-holds Inv-loop μ-loop Inv-bits μ-bits
+bits-holds c = search-start (suspectBy (c .before .args .work .now) (c .before .args .a .checks) (c .before .args .a .stride) (c .before .args .a .marks)) (c .before .args .a .gross)
+
+loop-holds : tie.Need-loop-holds Inv-loop μ-loop Inv-bits μ-bits
+loop-holds c = passed-start (c .before .before .before .args .work .now) (c .before .before .before .args .a .checks) (c .before .before .before .args .a .stride) (c .before .before .before .args .a .marks) (c .before .bits .j)
+
+bit-requires : tie.Need-bit-requires Inv-loop μ-loop Inv-bits μ-bits
+bit-requires c κs = omega (arith, bit-inside (c .before .before .before .before .before .pre .0) (c .before .loop .i) (c .before .before .before .bits .j) (omega arith) (omega arith))
+
+add-if4 : tie.Need-add-if4 Inv-loop μ-loop Inv-bits μ-bits
+add-if4 c = omega arith
+
+shared-slice-read-if4 : tie.Need-shared-slice-read-if4 Inv-loop μ-loop Inv-bits μ-bits
+shared-slice-read-if4 c = omega arith
+
+add-unmet : tie.Need-add-unmet Inv-loop μ-loop Inv-bits μ-bits
+add-unmet c = omega arith
+
+add-met : tie.Need-add-met Inv-loop μ-loop Inv-bits μ-bits
+add-met c = omega arith
+
+add-i : tie.Need-add-i Inv-loop μ-loop Inv-bits μ-bits
+add-i c = omega arith
+
+loop-less : tie.Need-loop-less Inv-loop μ-loop Inv-bits μ-bits
+loop-less c = omega arith
+
+loop-again : tie.Need-loop-again Inv-loop μ-loop Inv-bits μ-bits
+loop-again c =
+    let bit = mark-bit (c .before .before .before .before .before .before .before .args .a) (c .before .before .before .before .before .before .before .args .work .now) (c .before .before .before .before .before .before .before .pre .1) (c .before .before .before .loop .i) (omega arith) in
+    ⊎-elim (λ way. passed-unmet (c .before .before .before .loop .inv) (omega arith) (sym (c .before .bit .ensures) ∙ way .0 .taken) (way .2 .taken) (way .3) (way .4))
+    (⊎-elim (λ way. passed-met (c .before .before .before .loop .inv) (omega arith) (sym (c .before .bit .ensures) ∙ way .0 .taken) (omega (arith, bit, way .2 .left)) (way .3) (way .4))
+    (λ way. passed-other (c .before .before .before .loop .inv) (omega arith) (sym (c .before .bit .ensures) ∙ way .0 .left) (way .1) (way .2)))
+    (c .if3 .came)
+
+add-j : tie.Need-add-j Inv-loop μ-loop Inv-bits μ-bits
+add-j c = omega arith
+
+bits-less : tie.Need-bits-less Inv-loop μ-loop Inv-bits μ-bits
+bits-less c = omega arith
+
+bits-again : tie.Need-bits-again Inv-loop μ-loop Inv-bits μ-bits
+bits-again c =
+    let f : ℕ → Bool = suspectBy (c .before .before .before .before .before .before .args .work .now) (c .before .before .before .before .before .before .args .a .checks) (c .before .before .before .before .before .before .args .a .stride) (c .before .before .before .before .before .before .args .a .marks) in
+    search-next f (c .before .before .before .before .before .before .args .a .gross) (c .before .before .before .before .bits .j) (c .before .before .before .before .bits .inv) (omega arith) (passed-unsuspected (c .before .before .loop .inv) (omega arith) (omega arith))
+
+returns : tie.Need-returns Inv-loop μ-loop Inv-bits μ-bits
+returns c =
+    let f : ℕ → Bool = suspectBy (c .before .before .before .args .work .now) (c .before .before .before .args .a .checks) (c .before .before .before .args .a .stride) (c .before .before .before .args .a .marks) in
+    sym (search-none f (c .before .before .before .args .a .gross) (c .before .bits .j) (c .before .bits .inv) (omega arith)) ∙ suspect-by (c .before .before .before .args .a) (c .before .before .before .args .work .now) (c .before .before .before .pre .1) (c .before .before .before .pre .0)
+
+returns-2 : tie.Need-returns-2 Inv-loop μ-loop Inv-bits μ-bits
+returns-2 c =
+    let f : ℕ → Bool = suspectBy (c .before .before .before .before .before .before .args .work .now) (c .before .before .before .before .before .before .args .a .checks) (c .before .before .before .before .before .before .args .a .stride) (c .before .before .before .before .before .before .args .a .marks) in
+    sym (search-found f (c .before .before .before .before .before .before .args .a .gross) (c .before .before .before .before .bits .j) (c .before .before .before .before .bits .inv) (omega arith) (passed-suspect (c .before .before .loop .inv) (omega arith) (omega arith)))
+    ∙ suspect-by (c .before .before .before .before .before .before .args .a) (c .before .before .before .before .before .before .args .work .now) (c .before .before .before .before .before .before .pre .1) (c .before .before .before .before .before .before .pre .0)
+
+pub find-suspect-spec : {M : Type 1} → statement M
+find-suspect-spec =
+    tie.close
+    (tie.spec
+    Inv-loop
+    μ-loop
+    Inv-bits
+    μ-bits
+    bits-holds
+    loop-holds
+    bit-requires
+    add-if4
+    shared-slice-read-if4
+    add-unmet
+    add-met
+    add-i
+    loop-less
+    loop-again
+    add-j
+    bits-less
+    bits-again
+    returns
+    returns-2)

@@ -1,0 +1,68 @@
+-- `mending::mend` meets its contract: what is left of the run from the received word is the run from the word now. Assumes nothing.
+use mathlib.Core.Path.{_∙_}
+use mathlib.Core.Logic.{inl, inr, ⊎-elim}
+use native.Mathlib.Omega.{arith}
+use Rattle.mending.proofs.Run.{laid-kept, MendedTo, mended-start, suspect-most, repairs-few, mended-next, mended-all}
+use Rattle.mending.proofs.mend.Statement.{statement}
+use Rattle.mending.proofs.mend.Tie as tie
+
+abbrev Inv-loop : tie.InvT-loop
+Inv-loop work₀ a first n left₀ repairs₀ work left repairs = MendedTo a work₀ work left repairs
+
+abbrev μ-loop : tie.MeasureT-loop
+μ-loop work₀ a first n left₀ repairs₀ work left repairs = left
+
+mark-checks-requires : tie.Need-mark-checks-requires Inv-loop μ-loop
+mark-checks-requires c κs = c .before .before .pre .0
+
+count-unmet-requires : tie.Need-count-unmet-requires Inv-loop μ-loop
+count-unmet-requires c κs = (laid-kept (c .before .before .before .mark-checks .ensures .changed) (c .before .before .before .before .before .before .pre .0), c .before .before .before .mark-checks .ensures .marked)
+
+loop-holds : tie.Need-loop-holds Inv-loop μ-loop
+loop-holds c = mended-start (c .before .before .before .before .before .before .before .pre .0) (c .before .before .before .before .before .before .before .pre .1) (c .before .before .before .before .mark-checks .ensures) (c .count-unmet .ensures)
+
+find-suspect-requires : tie.Need-find-suspect-requires Inv-loop μ-loop
+find-suspect-requires c κs = (c .before .before .loop .inv .laid, c .before .before .loop .inv .marked)
+
+step-requires : tie.Need-step-requires Inv-loop μ-loop
+step-requires c κs =
+    let m = c .before .before .before .before .before .loop .inv in
+    (m .laid, m .run .bits, m .marked, omega (arith, suspect-most m (c .before .before .find-suspect .ensures)), repairs-few m (omega arith))
+
+count-unmet-requires-2 : tie.Need-count-unmet-requires-2 Inv-loop μ-loop
+count-unmet-requires-2 c κs = (laid-kept (c .before .before .before .step .ensures .1 .changed) (c .before .before .before .before .before .before .before .before .before .loop .inv .laid), c .before .before .before .step .ensures .1 .marked)
+
+loop-less : tie.Need-loop-less Inv-loop μ-loop
+loop-less c =
+    let inside = suspect-most (c .before .before .before .before .before .before .before .before .before .before .loop .inv) (c .before .before .before .before .before .before .before .find-suspect .ensures) in
+    mended-next (c .before .before .before .before .before .before .before .before .before .before .loop .inv) (omega arith) (omega arith) (c .before .before .before .before .before .before .before .find-suspect .ensures) (c .before .before .before .before .step .ensures .1) (c .count-unmet2 .ensures) (c .before .before .before .before .step .ensures .0) .1
+
+loop-again : tie.Need-loop-again Inv-loop μ-loop
+loop-again c =
+    let inside = suspect-most (c .before .before .before .before .before .before .before .before .before .before .loop .inv) (c .before .before .before .before .before .before .before .find-suspect .ensures) in
+    mended-next (c .before .before .before .before .before .before .before .before .before .before .loop .inv) (omega arith) (omega arith) (c .before .before .before .before .before .before .before .find-suspect .ensures) (c .before .before .before .before .step .ensures .1) (c .count-unmet2 .ensures) (c .before .before .before .before .step .ensures .0) .0
+
+same-length : tie.Need-same-length Inv-loop μ-loop
+same-length c = c .before .loop .inv .changed .long ∙ c .before .before .before .before .before .before .mark-checks .ensures .changed .long
+
+returns : tie.Need-returns Inv-loop μ-loop
+returns c =
+    mended-all (c .before .loop .inv) (c .before .before .before .before .before .before .before .before .before .pre .0) (c .before .before .before .before .before .before .mark-checks .ensures) (c .before .before .count-unmet .ensures)
+    (⊎-elim (λ way. inl (omega arith)) (λ way. inr (omega (arith, way .2 .ensures, way .3 .taken))) (c .loop-test .came))
+
+pub mend-spec : {M : Type 1} → statement M
+mend-spec =
+    tie.close
+    (tie.spec
+    Inv-loop
+    μ-loop
+    mark-checks-requires
+    count-unmet-requires
+    loop-holds
+    find-suspect-requires
+    step-requires
+    count-unmet-requires-2
+    loop-less
+    loop-again
+    same-length
+    returns)

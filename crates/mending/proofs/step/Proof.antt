@@ -1,0 +1,44 @@
+-- `mending::step` meets its contract: the bit is turned after the marks of its checks. Assumes nothing.
+use mathlib.Core.Path.{refl}
+use native.Mathlib.Omega.{arith}
+use Rattle.mending.proofs.Marks.{bit-kept, bit-turned}
+use borrow.Author.Needs.{needs}
+use Rattle.mending.proofs.step.Statement.{statement}
+use Rattle.mending.proofs.step.Tie as tie
+
+turn-marks-requires : tie.Need-turn-marks-requires
+turn-marks-requires c κs = search needs
+
+add-at : tie.Need-add-at
+add-at c = search needs
+
+slice-read-work : tie.Need-slice-read-work
+slice-read-work c = search needs
+
+sub-work : tie.Need-sub-work
+sub-work c = omega (arith, bit-kept (c .before .before .before .before .before .before .before .pre .0) (c .before .before .before .before .turn-marks .ensures) (c .before .before .before .before .before .before .before .args .j) (c .before .before .before .before .before .before .before .pre .3), c .before .before .before .before .before .before .before .pre .1 (c .before .before .before .before .before .before .before .args .j))
+
+slice-write-work : tie.Need-slice-write-work
+slice-write-work c = search needs
+
+add-result : tie.Need-add-result
+add-result c = search needs
+
+same-length : tie.Need-same-length
+same-length c = search needs
+
+returns : tie.Need-returns
+returns c = (refl, bit-turned (c .before .before .before .before .before .before .before .pre .0) (c .before .before .before .before .before .before .before .pre .1) (c .before .before .before .before .before .before .before .pre .2) (c .before .before .before .before .before .before .before .pre .3) (c .before .before .before .before .turn-marks .ensures))
+
+pub step-spec : {M : Type 1} → statement M
+step-spec =
+    tie.close
+    (tie.spec
+    turn-marks-requires
+    add-at
+    slice-read-work
+    sub-work
+    slice-write-work
+    add-result
+    same-length
+    returns)

@@ -1,0 +1,77 @@
+-- `mending::turn_marks` meets its contract: the marks up to i are turned where bit j stands in the check. Assumes nothing.
+use Prim.Native.Nat.{_-_}
+use mathlib.Core.Path.{_≡_, sym, _∙_}
+use mathlib.Core.Logic.{⊎-elim}
+use native.Mathlib.Omega.{arith}
+use Rattle.mending.proofs.Counts.{mark-bit}
+use Rattle.mending.proofs.Marks.{bit-inside, bits-kept, TurnedTo, turned-start, turned-in, turned-out, turned-all}
+use Rattle.mending.proofs.turn_marks.Statement.{statement}
+use Rattle.mending.proofs.turn_marks.Tie as tie
+
+abbrev Inv-loop : tie.InvT-loop
+Inv-loop work₀ j k stride marks i₀ work i = TurnedTo j k stride marks i work₀ work
+
+abbrev μ-loop : tie.MeasureT-loop
+μ-loop work₀ j k stride marks i₀ work i = k - i
+
+loop-holds : tie.Need-loop-holds Inv-loop μ-loop
+loop-holds c = turned-start (c .before .args .j) (c .before .args .a .checks) (c .before .args .a .stride) (c .before .args .a .marks) (c .before .args .work .now)
+
+bit-requires : tie.Need-bit-requires Inv-loop μ-loop
+bit-requires c κs = omega (arith, c .before .before .loop .inv .changed .long, bit-inside (c .before .before .before .before .pre .0) (c .before .before .loop .i) (c .before .before .before .before .args .j) (omega arith) (c .before .before .before .before .pre .2))
+
+add-work : tie.Need-add-work Inv-loop μ-loop
+add-work c = omega (arith, c .before .before .before .before .before .before .pre .0)
+
+slice-read-work : tie.Need-slice-read-work Inv-loop μ-loop
+slice-read-work c = omega (arith, c .before .before .before .before .before .loop .inv .changed .long, c .before .before .before .before .before .before .before .pre .0)
+
+sub-work : tie.Need-sub-work Inv-loop μ-loop
+sub-work c = omega (arith, c .before .before .before .before .before .loop .inv .rest (c .before .before .before .before .before .loop .i) (omega arith), mark-bit (c .before .before .before .before .before .before .before .args .a) (c .before .before .before .before .before .before .before .args .work .now) (c .before .before .before .before .before .before .before .pre .1) (c .before .before .before .before .before .loop .i) (omega arith))
+
+add-work-2 : tie.Need-add-work-2 Inv-loop μ-loop
+add-work-2 c = omega (arith, c .before .before .before .before .before .before .before .pre .0)
+
+slice-write-work : tie.Need-slice-write-work Inv-loop μ-loop
+slice-write-work c = omega (arith, c .before .before .before .before .before .loop .inv .changed .long, c .before .before .before .before .before .before .before .pre .0)
+
+add-i : tie.Need-add-i Inv-loop μ-loop
+add-i c = omega arith
+
+loop-less : tie.Need-loop-less Inv-loop μ-loop
+loop-less c = omega arith
+
+loop-again : tie.Need-loop-again Inv-loop μ-loop
+loop-again c =
+    let same = bits-kept (c .before .before .before .before .before .before .pre .0) (c .before .before .before .before .loop .inv .changed) (c .before .before .before .before .loop .i) (omega arith) (c .before .before .before .before .before .before .args .j) (c .before .before .before .before .before .before .pre .2) in
+    ⊎-elim
+    (λ way. turned-in (c .before .before .before .before .loop .inv) (omega arith) (omega (arith, c .before .before .before .before .before .before .pre .0)) (sym same ∙ sym (c .before .bit .ensures) ∙ way .0 .taken) (way .2))
+    (λ way. turned-out (c .before .before .before .before .loop .inv) (omega arith) (sym same ∙ sym (c .before .bit .ensures) ∙ way .0 .left) (way .1))
+    (c .if1 .came)
+
+same-length : tie.Need-same-length Inv-loop μ-loop
+same-length c = c .before .loop .inv .changed .long
+
+returns : tie.Need-returns Inv-loop μ-loop
+returns c =
+    let e : c .before .loop .i ≡ c .before .before .before .args .a .checks = omega arith in
+    turned-all {a = c .before .before .before .args .a} (rw e at (c .before .loop .inv))
+
+pub turn-marks-spec : {M : Type 1} → statement M
+turn-marks-spec =
+    tie.close
+    (tie.spec
+    Inv-loop
+    μ-loop
+    loop-holds
+    bit-requires
+    add-work
+    slice-read-work
+    sub-work
+    add-work-2
+    slice-write-work
+    add-i
+    loop-less
+    loop-again
+    same-length
+    returns)

@@ -1,0 +1,4 @@
+mod Forwards
+mod Backwards
+mod Exchanged
+mod NumberTurns

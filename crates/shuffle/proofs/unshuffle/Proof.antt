@@ -1,0 +1,70 @@
+-- `shuffle::unshuffle` meets its contract: the invariant is how far up the exchanges are undone. Assumes nothing.
+use Prim.Native.Nat.{_-_}
+use native.Mathlib.Omega.{arith}
+use borrow.Author.Needs.{needs}
+use Rattle.shuffle.proofs.Backwards.{Restoring, restoring-start, restoring-next, restoring-done}
+use Rattle.shuffle.proofs.unshuffle.Statement.{statement}
+use Rattle.shuffle.proofs.unshuffle.Tie as tie
+
+abbrev Inv-loop : tie.InvT-loop
+Inv-loop xs₀ state n s₀ done₀ xs s done = Restoring xs₀ state done s xs
+
+abbrev μ-loop : tie.MeasureT-loop
+μ-loop xs₀ state n s₀ done₀ xs s done = n - done
+
+state-after-requires : tie.Need-state-after-requires Inv-loop μ-loop
+state-after-requires c κs = search needs
+
+loop-holds : tie.Need-loop-holds Inv-loop μ-loop
+loop-holds c = rw (c .state-after .ensures) (restoring-start (c .before .before .args .xs .now) (c .before .before .args .state))
+
+add-drawn-place : tie.Need-add-drawn-place Inv-loop μ-loop
+add-drawn-place c = search needs
+
+drawn-place-requires : tie.Need-drawn-place-requires Inv-loop μ-loop
+drawn-place-requires c κs = search needs
+
+exchange-requires : tie.Need-exchange-requires Inv-loop μ-loop
+exchange-requires c κs = search needs
+
+previous-state-requires : tie.Need-previous-state-requires Inv-loop μ-loop
+previous-state-requires c κs = search needs
+
+add-done : tie.Need-add-done Inv-loop μ-loop
+add-done c = search needs
+
+loop-less : tie.Need-loop-less Inv-loop μ-loop
+loop-less c = search needs
+
+loop-again : tie.Need-loop-again Inv-loop μ-loop
+loop-again c =
+    restoring-next (c .before .before .before .before .before .before .before .loop .inv)
+    (c .before .before .before .before .before .before .before .before .before .before .fits .state .fits)
+    (omega arith)
+    (c .before .before .before .before .drawn-place .ensures .0)
+    (c .before .before .before .exchange .ensures)
+    (c .previous-state .ensures)
+
+same-length : tie.Need-same-length Inv-loop μ-loop
+same-length c = c .before .loop .inv .long
+
+returns : tie.Need-returns Inv-loop μ-loop
+returns c = restoring-done (c .before .loop .inv) (omega arith)
+
+pub unshuffle-spec : {M : Type 1} → statement M
+unshuffle-spec =
+    tie.close
+    (tie.spec
+    Inv-loop
+    μ-loop
+    state-after-requires
+    loop-holds
+    add-drawn-place
+    drawn-place-requires
+    exchange-requires
+    previous-state-requires
+    add-done
+    loop-less
+    loop-again
+    same-length
+    returns)
