@@ -11,7 +11,7 @@ use native.Mathlib.Decide.{ℕ-discrete, decLt}
 use native.Mathlib.Omega.{arith}
 use lib.Arith.{digits-div, digits-mod}
 use lib.Dec.{eqb}
-use lib.ListN.{getD}
+use lib.ListN.{getD, List·getD-eq-default}
 use borrow.Author.Tests.{eq-eqb, ne-eqb}
 use Rattle.symbology.specs.Generator.{stateAfter}
 use Rattle.symbology.specs.Shuffle.{shuffled}
@@ -19,9 +19,10 @@ use Rattle.symbology.specs.Matrix.{matrixSeed, columnOrder, matrixA}
 use Rattle.laws.proofs.Gf2.{xor-none, none-xor}
 use Rattle.laws.proofs.Generator.{after-add}
 use Rattle.laws.proofs.Matrix.{order-lt}
+use Rattle.laws.proofs.Shuffle.{shuffled-every}
 use Rattle.lent.specs.declared.Areas.{Areas}
 use Rattle.lent.specs.Buffer.{numbersAt, ChangedIn, ChangedInBoth, Cleared, Laid}
-use Rattle.lent.proofs.Buffer.{numbers-same, both-then}
+use Rattle.lent.proofs.Buffer.{length-numbers, numbers-same, both-then}
 use Rattle.dense.specs.Dense.{denseBits}
 use Rattle.dense.proofs.Dense.{row-gap, in-row, rows-same}
 use Rattle.check_matrix.specs.Build.{CountedUp, BlockFits, BlockTurned, Built}
@@ -46,16 +47,18 @@ module _ {a : Areas} {room : ℕ} (l : Laid a room) where
 
   -- bits of the rows stay where only numbers are changed
   bits-same : {before after : List ℕ} → ChangedIn (a .numbers) (a .numbers + 2 * a .gross) before after
-      → (i : ℕ) → i < a .checks → (j : ℕ) → j < a .gross → denseBits after (a .stride) i j ≡ denseBits before (a .stride) i j
-  bits-same {before} {after} c i h j g =
-      rows-same before after (a .stride) (a .checks) (a .numbers) rows-first (c .front) i h j (in-row (a .gross) (a .stride) j (l .wide) g)
+      → (i : ℕ) → i < a .checks → (j : ℕ) → j / 8 < a .stride → denseBits after (a .stride) i j ≡ denseBits before (a .stride) i j
+  bits-same {before} {after} c i h j g = rows-same before after (a .stride) (a .checks) (a .numbers) rows-first (c .front) i h j g
+
+  -- the byte of a column lies in its row
+  column-inside : (j : ℕ) → j < a .gross → j / 8 < a .stride
+  column-inside j g = in-row (a .gross) (a .stride) j (l .wide) g
 
   -- the bits of cleared rows
   bits-cleared : {before after : List ℕ} → Cleared 0 (a .checks * a .stride) before after
-      → (i : ℕ) → i < a .checks → (j : ℕ) → j < a .gross → denseBits after (a .stride) i j ≡ false
+      → (i : ℕ) → i < a .checks → (j : ℕ) → j / 8 < a .stride → denseBits after (a .stride) i j ≡ false
   unfolding denseBits
   bits-cleared {before} {after} c i h j g =
-      let low : j / 8 < a .stride = in-row (a .gross) (a .stride) j (l .wide) g in
       let zero-there : getD after (i * a .stride + j / 8) 0 ≡ 0 =
       c .zero-in (i * a .stride + j / 8) (omega arith) (omega (arith, row-gap i (a .checks) (a .stride) h)) in
       ap (λ (v : ℕ). eqb (v / 2 ^ (j % 8) % 2) 1) zero-there ∙ ap (λ (v : ℕ). eqb (v % 2) 1) (zero-div (2 ^ (j % 8)))
@@ -102,6 +105,7 @@ pub record BlocksBuilt (a : Areas) (t wr block state : ℕ) (before after : List
   pub order : numbersAt after (a .numbers) (a .gross) ≡ columnOrder matrixSeed (a .gross) block
   pub done : (i : ℕ) → i < block * t → i < a .checks → (j : ℕ) → j < a .gross → denseBits after (a .stride) i j ≡ matrixA matrixSeed t wr i j
   pub rest : (i : ℕ) → block * t ≤ i → i < a .checks → (j : ℕ) → j < a .gross → denseBits after (a .stride) i j ≡ false
+  pub past : (i : ℕ) → i < a .checks → (j : ℕ) → a .gross ≤ j → j / 8 < a .stride → denseBits after (a .stride) i j ≡ false
 
 pub blocks-start : {a : Areas} {room : ℕ} (t wr : ℕ) {entry cleared counted : List ℕ} → Laid a room
     → Cleared 0 (a .checks * a .stride) entry cleared → CountedUp (a .numbers) (a .gross) cleared counted
@@ -113,7 +117,8 @@ blocks-start {a} t wr l c n =
       states = sym (ap (λ (k : ℕ). stateAfter k matrixSeed) (zero-mul (a .gross)));
       order = n .counted;
       done = λ i h. absurd (omega (arith, zero-mul t));
-      rest = λ i h g j k. bits-same l (n .changed) i g j k ∙ bits-cleared l c i g j k;
+      rest = λ i h g j k. bits-same l (n .changed) i g j (column-inside l j k) ∙ bits-cleared l c i g j (column-inside l j k);
+      past = λ i h j g k. bits-same l (n .changed) i h j k ∙ bits-cleared l c i h j k;
     }
 
 module _ {a : Areas} {t wc wr room block state : ℕ} {before work : List ℕ} (s : Sized a t wc wr room)
@@ -126,21 +131,35 @@ module _ {a : Areas} {t wc wr room block state : ℕ} {before work : List ℕ} (
   quotient-lt : (k j : ℕ) → j < a .gross → getD (columnOrder matrixSeed (a .gross) k) j 0 / wr < t
   quotient-lt k j h = div-lt-iff-lt-mul (s .some) .1 (omega (arith, s .columns, order-lt matrixSeed (a .gross) k j h))
 
+  -- each number is a column
+  number-lt : 0 < a .gross → (i : ℕ) → getD (numbersAt work (a .numbers) (a .gross)) i 0 < a .gross
+  number-lt some i =
+      elim (decLt i (a .gross)) [
+        | yes h ↦ rw (b .order) (order-lt matrixSeed (a .gross) block i h)
+        | no h ↦
+            rw (List·getD-eq-default (numbersAt work (a .numbers) (a .gross)) 0 {n = i} (omega (arith, length-numbers work (a .numbers) (a .gross)))) some
+      ]
+
+  -- the numbers, shuffled from any state, lead to t rows
+  pub block-fits : (mixed : List ℕ) (from first : ℕ)
+      → numbersAt mixed (a .numbers) (a .gross) ≡ shuffled 0 from (numbersAt work (a .numbers) (a .gross))
+      → first + t ≤ a .checks → BlockFits a wr first mixed
+  block-fits mixed from first e h =
+      record {
+        some = s .some;
+        inside = λ j g.
+            rw e
+            (let each = shuffled-every 0 (λ (c : ℕ). c < a .gross) from (numbersAt work (a .numbers) (a .gross)) (number-lt (omega arith)) j in
+            let low : getD (shuffled 0 from (numbersAt work (a .numbers) (a .gross))) j 0 / wr < t =
+            div-lt-iff-lt-mul (s .some) .1 (omega (arith, s .columns, each)) in
+            omega arith);
+      }
+
   -- the column order is shuffled
   module _ (mixed : List ℕ) (e : numbersAt mixed (a .numbers) (a .gross) ≡ shuffled 0 state (numbersAt work (a .numbers) (a .gross))) where
     order-next : numbersAt mixed (a .numbers) (a .gross) ≡ columnOrder matrixSeed (a .gross) (suc block)
     unfolding columnOrder
     order-next = e ∙ ap₂ (shuffled 0) (b .states) (b .order)
-
-    pub block-fits : block < wc → BlockFits a wr (block * t) mixed
-    block-fits h =
-        record {
-          some = s .some;
-          inside = λ j g.
-              rw order-next
-              (let low : getD (columnOrder matrixSeed (a .gross) (suc block)) j 0 / wr < t = quotient-lt (suc block) j g in
-              omega (arith, block-end h));
-        }
 
     -- the block is turned
     module _ {later : List ℕ} (m : ChangedIn (a .numbers) (a .numbers + 2 * a .gross) work mixed)
@@ -150,7 +169,7 @@ module _ {a : Areas} {t wc wr room block state : ℕ} {before work : List ℕ} (
           ≡ xor (denseBits work (a .stride) i j) (eqb i (block * t + getD (columnOrder matrixSeed (a .gross) (suc block)) j 0 / wr))
       bits-next i h j g =
           d .bits i h j g
-          ∙ ap₂ (λ (x : Bool) (o : List ℕ). xor x (eqb i (block * t + getD o j 0 / wr))) (bits-same (s .laid) m i h j g) order-next
+          ∙ ap₂ (λ (x : Bool) (o : List ℕ). xor x (eqb i (block * t + getD o j 0 / wr))) (bits-same (s .laid) m i h j (column-inside (s .laid) j g)) order-next
 
       -- rows outside the block stay
       bits-outside : (i : ℕ) → i < a .checks → (j : ℕ) → j < a .gross → (i < block * t) ⊎ (block * t + t ≤ i)
@@ -191,14 +210,17 @@ module _ {a : Areas} {t wc wr room block state : ℕ} {before work : List ℕ} (
                   | no o ↦ bits-inside i h j g (omega arith) (omega arith)
                 ];
             rest = λ i k h j g. bits-outside i h j g (inr (omega arith)) ∙ b .rest i (omega arith) h j g;
+            past = λ i h j g k. d .past i j g k ∙ bits-same (s .laid) m i h j k ∙ b .past i h j g k;
           }
 
   -- the last block is built
   pub blocks-done : {entry cleared : List ℕ} → Cleared 0 (a .checks * a .stride) entry cleared → CountedUp (a .numbers) (a .gross) cleared before
-      → wc ≤ block → Built a t wr entry work
-  blocks-done c n h =
-      let all : wc * t ≤ block * t = mul-le-mul-right t h in
+      → block ≡ wc → Built a t wc wr entry work
+  blocks-done c n e =
+      let all : wc * t ≤ block * t = mul-le-mul-right t (omega arith) in
       record {
         changed = both-then (changed-rows (s .laid) (c .changed)) (both-then (changed-numbers (s .laid) (n .changed)) (b .changed));
         bits = λ i k j g. b .done i (omega (arith, s .rows, mul-comm t wc)) k j g;
+        past = b .past;
+        order = b .order ∙ ap (columnOrder matrixSeed (a .gross)) e;
       }

@@ -1,7 +1,7 @@
 -- The ones of a block turned column by column: in each column one bit, in the row to which the column order leads.
 -- Assumes nothing.
 use Prim.Native.Nat.{ℕ, _+_, _*_, _/_, _≤_, _<_}
-use mathlib.Core.Path.{_≡_, sym, ap, ap₂, _∙_}
+use mathlib.Core.Path.{_≡_, refl, sym, ap, ap₂, _∙_}
 use mathlib.Core.Bool.{Bool, _&&_, xor, and-true, and-false}
 use mathlib.Core.List.{List}
 use native.Mathlib.Decide.{ℕ-discrete, decLt}
@@ -29,6 +29,7 @@ pub record TurningBlock (n stride numbers wr first j : ℕ) (before after : List
   pub bits : (i c : ℕ)
       → c < n
       → denseBits after stride i c ≡ xor (denseBits before stride i c) (ltb c j && eqb i (rowOf n numbers wr first before c))
+  pub past : (i c : ℕ) → n ≤ c → c / 8 < stride → denseBits after stride i c ≡ denseBits before stride i c
 
 pub turning-start : (n stride numbers wr first : ℕ) (xs : List ℕ) → TurningBlock n stride numbers wr first 0 xs xs
 turning-start n stride numbers wr first xs =
@@ -38,6 +39,7 @@ turning-start n stride numbers wr first xs =
       bits = λ i c h.
           sym (ap (λ (t : Bool). xor (denseBits xs stride i c) (t && eqb i (rowOf n numbers wr first xs c))) (le-ltb c 0 (omega arith))
           ∙ xor-none (denseBits xs stride i c));
+      past = λ i c h g. refl;
     }
 
 -- a column other than j is below j + 1 where it is below j
@@ -101,6 +103,12 @@ module _ {a : Areas} {wr first j : ℕ} {before after : List ℕ} {room : ℕ} (
                   ∙ ap (xor (xor was (ltb c (j + 1) && eqb i (order c)))) (and-false (eqb i (first + v / wr)))
                   ∙ xor-none (xor was (ltb c (j + 1) && eqb i (order c)))
             ];
+        past = λ i c g k.
+            t .bits i c k
+            ∙ ap (λ (b : Bool). xor (denseBits after stride i c) (eqb i (first + v / wr) && b)) (ne-eqb c j (λ s. omega arith))
+            ∙ ap (xor (denseBits after stride i c)) (and-false (eqb i (first + v / wr)))
+            ∙ xor-none (denseBits after stride i c)
+            ∙ r .past i c g k;
       }
 
   pub turning-done : a .gross ≤ j → BlockTurned a wr first before after
@@ -111,4 +119,5 @@ module _ {a : Areas} {wr first j : ℕ} {before after : List ℕ} {room : ℕ} (
             r .bits i c k
             ∙ ap (λ (b : Bool). xor (denseBits before (a .stride) i c) (b && eqb i (rowOf (a .gross) (a .numbers) wr first before c)))
             (lt-ltb c j (omega arith));
+        past = r .past;
       }

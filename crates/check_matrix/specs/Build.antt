@@ -1,13 +1,13 @@
 -- The dense rows of A as they are built.
 -- Assumes nothing.
-use Prim.Native.Nat.{ℕ, _+_, _*_, _/_, _<_}
+use Prim.Native.Nat.{ℕ, _+_, _*_, _/_, _≤_, _<_}
 use mathlib.Core.Path.{_≡_}
-use mathlib.Core.Bool.{xor}
+use mathlib.Core.Bool.{false, xor}
 use mathlib.Core.List.{List}
 use lib.Dec.{eqb}
 use lib.ListN.{getD}
 use Rattle.symbology.specs.Ranges.{tabulate}
-use Rattle.symbology.specs.Matrix.{matrixSeed, matrixA}
+use Rattle.symbology.specs.Matrix.{matrixSeed, columnOrder, matrixA}
 use Rattle.lent.specs.declared.Areas.{Areas}
 use Rattle.lent.specs.Buffer.{numbersAt, ChangedIn, ChangedInBoth}
 use Rattle.dense.specs.Dense.{denseBits}
@@ -32,8 +32,12 @@ pub record BlockTurned (a : Areas) (wr first : ℕ) (before after : List ℕ) : 
       → j < a .gross
       → denseBits after (a .stride) i j
       ≡ xor (denseBits before (a .stride) i j) (eqb i (first + getD (numbersAt before (a .numbers) (a .gross)) j 0 / wr))
+  pub past : (i j : ℕ) → a .gross ≤ j → j / 8 < a .stride → denseBits after (a .stride) i j ≡ denseBits before (a .stride) i j
 
--- the rows are those of A; only they and the numbers are changed
-pub record Built (a : Areas) (t wr : ℕ) (before after : List ℕ) : Type 0 where
+-- The rows are those of A, with zeros past the last column, and the numbers are the column order of the last block. Nothing else is
+-- changed.
+pub record Built (a : Areas) (t wc wr : ℕ) (before after : List ℕ) : Type 0 where
   pub changed : ChangedInBoth (a .checks * a .stride) (a .numbers) (a .numbers + 2 * a .gross) before after
   pub bits : (i : ℕ) → i < a .checks → (j : ℕ) → j < a .gross → denseBits after (a .stride) i j ≡ matrixA matrixSeed t wr i j
+  pub past : (i : ℕ) → i < a .checks → (j : ℕ) → a .gross ≤ j → j / 8 < a .stride → denseBits after (a .stride) i j ≡ false
+  pub order : numbersAt after (a .numbers) (a .gross) ≡ columnOrder matrixSeed (a .gross) wc

@@ -39,7 +39,7 @@ fn turn_block(work: &mut [u8], a: Areas, wr: usize, first: usize)
 // Builds A with wc blocks of t rows and wr ones to a row.
 pub fn build(work: &mut [u8], a: Areas, t: usize, wc: usize, wr: usize)
     requires { ⌜ Laid a (length (now work)) × (a .gross ≡ t * wr) × (a .checks ≡ t * wc) × (0 < wr) ⌝ }
-    ensures { λ _. ⌜ Built a t wr (now (work .entry)) (now (work .exit)) ⌝ }
+    ensures { λ _. ⌜ Built a t wc wr (now (work .entry)) (now (work .exit)) ⌝ }
 {
     let n = a.gross;
     let numbers = a.numbers;

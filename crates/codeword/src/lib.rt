@@ -3,6 +3,7 @@
 use lent::Areas;
 ghost use lib.ListN.{length};
 ghost use Rattle.lent.specs.Buffer.{part, Laid};
+ghost use Rattle.elimination.specs.Reduced.{HoldsElimination};
 ghost use Rattle.codeword.specs.Columns.{RowsApart, Placed, Solved, Gathered, WordFilled, MessageRead};
 ghost use Rattle.symbology.specs.Bits.{AllBits};
 
@@ -54,7 +55,7 @@ fn solve_checks(work: &mut [u8], a: Areas)
 
 // Stores the codeword of the net bits as the word.
 pub fn fill_word(work: &mut [u8], a: Areas)
-    requires { ⌜ Laid a (length (now work)) × RowsApart a (now work) × AllBits (part (now work) (a .message) (a .net)) ⌝ }
+    requires { ⌜ Laid a (length (now work)) × HoldsElimination a (now work) × AllBits (part (now work) (a .message) (a .net)) ⌝ }
     ensures { λ _. ⌜ WordFilled a (now (work .entry)) (now (work .exit)) ⌝ }
 {
     place_message(work, a);
@@ -92,7 +93,7 @@ fn gather(work: &mut [u8], a: Areas) -> bool
 
 // Reads the message columns of the word.
 pub fn read_message(work: &mut [u8], a: Areas) -> bool
-    requires { ⌜ Laid a (length (now work)) ⌝ }
+    requires { ⌜ Laid a (length (now work)) × HoldsElimination a (now work) ⌝ }
     ensures { λ r. ⌜ MessageRead a (now (work .entry)) (now (work .exit)) r ⌝ }
 {
     gather(work, a)

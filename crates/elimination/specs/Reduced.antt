@@ -46,3 +46,8 @@ pub record EliminatedFrom (a : Areas) (m : BitMatrix) (j : ℕ) (work : List ℕ
 pub record Eliminated (a : Areas) (m : BitMatrix) (before after : List ℕ) : Type 0 where
   pub changed : ChangedInBoth (a .marks + a .checks) (a .numbers) (a .numbers + 2 * a .gross) before after
   pub whole : EliminatedFrom a m 0 after
+
+-- the buffer holds the elimination of some matrix
+pub record HoldsElimination (a : Areas) (work : List ℕ) : Type 0 where
+  pub matrix : BitMatrix
+  pub whole : EliminatedFrom a matrix 0 work

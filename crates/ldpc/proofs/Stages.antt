@@ -19,14 +19,13 @@ use Rattle.dense.specs.Dense.{denseBits}
 use Rattle.dense.proofs.Dense.{in-row, rows-same}
 use Rattle.check_matrix.specs.Build.{Built}
 use Rattle.mending.specs.Marks.{wordIn, checksIn, MendedBy}
-use Rattle.elimination.specs.Reduced.{Eliminated}
-use Rattle.codeword.specs.Columns.{RowsApart, WordFilled, MessageRead}
-use Rattle.codeword.proofs.Columns.{rows-apart}
+use Rattle.elimination.specs.Reduced.{Eliminated, HoldsElimination}
+use Rattle.codeword.specs.Columns.{WordFilled, MessageRead}
 use Rattle.ldpc.specs.Work.{areasOf, wordFor, netFor, HoldsA}
 use Rattle.ldpc.specs.Stages.{RowsBuilt, Encoded, MendedFor, MessageFor}
 
 -- the rows built are those of A
-pub rows-built : {s : Sizes} {before after : List ℕ} → Built (areasOf s) (s .block) (s .wr) before after → RowsBuilt s before after
+pub rows-built : {s : Sizes} {wc : ℕ} {before after : List ℕ} → Built (areasOf s) (s .block) wc (s .wr) before after → RowsBuilt s before after
 unfolding areasOf
 rows-built b = record { changed = b .changed; holds = b .bits }
 
@@ -63,11 +62,11 @@ module _ (s : Sizes) {before : List ℕ} (laid : Laid (areasOf s) (length before
   -- what filling the word asks for
   pub fill-fits : {built reduced : List ℕ} → RowsBuilt s before built
       → Eliminated (areasOf s) (denseBits built (areasOf s .stride)) built reduced → AllBits (netFor s before)
-      → Laid (areasOf s) (length reduced) × RowsApart (areasOf s) reduced × AllBits (part reduced (areasOf s .message) (areasOf s .net))
+      → Laid (areasOf s) (length reduced) × HoldsElimination (areasOf s) reduced × AllBits (part reduced (areasOf s .message) (areasOf s .net))
   unfolding areasOf
   fill-fits {built} {reduced} b e are-bits = (
     laid-as laid (reduced-changed b e .long),
-    rows-apart (areasOf s) (denseBits built (areasOf s .stride)) reduced (e .whole),
+    record { matrix = denseBits built (areasOf s .stride); whole = e .whole },
     subst⁻¹ AllBits (net-kept (reduced-changed b e)) are-bits,
   )
 

@@ -165,4 +165,5 @@ module _ {a : Areas} {start work : List ℕ} {left repairs : ℕ} (m : MendedTo 
         first-is = e ∙ ap₂ unmetCount checks word;
         bounded = omega (arith, m .run .bounded);
         stuck-is = ap (ltb 0) (m .run .left-is ∙ ap (unmetCount cs) (done .0)) ∙ ap₂ stuck checks word;
+        marked = m .marked;
       }

@@ -49,7 +49,7 @@ pub record BitTurned (a : Areas) (j : ℕ) (before after : List ℕ) : Type 0 wh
   pub marked : Marked a after
 
 -- The word is the last of the rule's run from the word before, the count is that of its repairs and at most the first unmet count,
--- and the word is stuck as the rule says. Only marks and word are changed.
+-- and the word is stuck as the rule says. The marks are those of the last word; only marks and word are changed.
 pub record MendedBy (a : Areas) (before after : List ℕ) (repairs first : ℕ) (isStuck : Bool) : Type 0 where
   pub changed : ChangedIn (a .marks) (a .word + a .gross) before after
   pub word-is : wordIn a after ≡ lastWord (checksIn a before) (wordIn a before)
@@ -57,3 +57,4 @@ pub record MendedBy (a : Areas) (before after : List ℕ) (repairs first : ℕ) 
   pub first-is : first ≡ unmetCount (checksIn a before) (wordIn a before)
   pub bounded : repairs ≤ first
   pub stuck-is : isStuck ≡ stuck (checksIn a before) (wordIn a before)
+  pub marked : Marked a after

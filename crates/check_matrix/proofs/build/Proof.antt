@@ -1,5 +1,5 @@
 -- `check_matrix::build` meets its contract: the invariant is how many blocks are built. Assumes nothing.
-use Prim.Native.Nat.{_-_}
+use Prim.Native.Nat.{_-_, _≤_}
 use mathlib.Core.Path.{_∙_}
 use native.Mathlib.Omega.{arith}
 use borrow.Author.Needs.{needs}
@@ -8,7 +8,7 @@ use Rattle.check_matrix.proofs.build.Statement.{statement}
 use Rattle.check_matrix.proofs.build.Tie as tie
 
 abbrev Inv-loop : tie.InvT-loop
-Inv-loop work₀ a t wc wr n numbers state₀ block₀ work state block = BlocksBuilt a t wr block state work₀ work
+Inv-loop work₀ a t wc wr n numbers state₀ block₀ work state block = (block ≤ wc) × BlocksBuilt a t wr block state work₀ work
 
 abbrev μ-loop : tie.MeasureT-loop
 μ-loop work₀ a t wc wr n numbers state₀ block₀ work state block = wc - block
@@ -26,13 +26,15 @@ count-up-requires c κs =
 
 loop-holds : tie.Need-loop-holds Inv-loop μ-loop
 loop-holds c =
-    let entry = c .before .before .before .before .before .before .before .before .before .before in
-    blocks-start (entry .args .t) (entry .args .wr) (entry .pre .0) (c .before .before .before .before .before .before .clear .ensures) (c .before .before .count-up .ensures)
+    let entry = c .before .before .before .before .before .before .before .before .before .before in (
+      omega arith,
+      blocks-start (entry .args .t) (entry .args .wr) (entry .pre .0) (c .before .before .before .before .before .before .clear .ensures) (c .before .before .count-up .ensures),
+    )
 
 shuffle-numbers-requires : tie.Need-shuffle-numbers-requires Inv-loop μ-loop
 shuffle-numbers-requires c κs =
     let same =
-    c .before .before .loop .inv .changed .long ∙ c .before .before .before .before .before .count-up .ensures .changed .long
+    c .before .before .loop .inv .1 .changed .long ∙ c .before .before .before .before .before .count-up .ensures .changed .long
     ∙ c .before .before .before .before .before .before .before .before .before .clear .ensures .changed .long in
     (omega arith, omega (arith, same))
 
@@ -40,21 +42,21 @@ mul-turn-block : tie.Need-mul-turn-block Inv-loop μ-loop
 mul-turn-block c =
     let entry = c .before .before .before .before .before .before .before .before .before .before .before .before .before .before .before .before .before in
     let a = entry .args in
-    let end = block-end (sized (a .t) (a .wc) (a .wr) (entry .pre)) (c .before .before .before .before .before .before .loop .inv) (omega arith) in
+    let end = block-end (sized (a .t) (a .wc) (a .wr) (entry .pre)) (c .before .before .before .before .before .before .loop .inv .1) (omega arith) in
     omega (arith, end)
 
 turn-block-requires : tie.Need-turn-block-requires Inv-loop μ-loop
 turn-block-requires c κs =
     let entry = c .before .before .before .before .before .before .before .before .before .before .before .before .before .before .before .before .before in
     let a = entry .args in
+    let size = sized (a .t) (a .wc) (a .wr) (entry .pre) in
+    let built = c .before .before .before .before .before .before .loop .inv .1 in
     let same =
-    c .before .before .before .shuffle-numbers .ensures .2 .long ∙ c .before .before .before .before .before .before .loop .inv .changed .long
+    c .before .before .before .shuffle-numbers .ensures .2 .long ∙ built .changed .long
     ∙ c .before .before .before .before .before .before .before .before .before .count-up .ensures .changed .long
-    ∙ c .before .before .before .before .before .before .before .before .before .before .before .before .before .clear .ensures .changed .long in (
-      rw same (entry .pre .0),
-      block-fits (sized (a .t) (a .wc) (a .wr) (entry .pre)) (c .before .before .before .before .before .before .loop .inv) _
-          (c .before .before .before .shuffle-numbers .ensures .0) (omega arith),
-    )
+    ∙ c .before .before .before .before .before .before .before .before .before .before .before .before .before .clear .ensures .changed .long in
+    let end = block-end size built (omega arith) in
+    (rw same (entry .pre .0), block-fits size built _ _ _ (c .before .before .before .shuffle-numbers .ensures .0) (omega (arith, end)))
 
 add-block : tie.Need-add-block Inv-loop μ-loop
 add-block c = omega arith
@@ -66,20 +68,22 @@ loop-again : tie.Need-loop-again Inv-loop μ-loop
 loop-again c =
     let entry = c .before .before .before .before .before .before .before .before .before .before .before .before .before .before .before .before .before .before .before .before in
     let a = entry .args in
-    let mixed = c .before .before .before .before .before .before .shuffle-numbers .ensures in
-    blocks-next (sized (a .t) (a .wc) (a .wr) (entry .pre)) (c .before .before .before .before .before .before .before .before .before .loop .inv) _
-    (mixed .0) (mixed .2) (c .before .before .turn-block .ensures) (mixed .1)
+    let mixed = c .before .before .before .before .before .before .shuffle-numbers .ensures in (
+      omega arith,
+      blocks-next (sized (a .t) (a .wc) (a .wr) (entry .pre)) (c .before .before .before .before .before .before .before .before .before .loop .inv .1) _
+          (mixed .0) (mixed .2) (c .before .before .turn-block .ensures) (mixed .1),
+    )
 
 same-length : tie.Need-same-length Inv-loop μ-loop
 same-length c =
-    c .before .loop .inv .changed .long ∙ c .before .before .before .before .count-up .ensures .changed .long
+    c .before .loop .inv .1 .changed .long ∙ c .before .before .before .before .count-up .ensures .changed .long
     ∙ c .before .before .before .before .before .before .before .before .clear .ensures .changed .long
 
 returns : tie.Need-returns Inv-loop μ-loop
 returns c =
     let entry = c .before .before .before .before .before .before .before .before .before .before .before .before in
     let a = entry .args in
-    blocks-done (sized (a .t) (a .wc) (a .wr) (entry .pre)) (c .before .loop .inv)
+    blocks-done (sized (a .t) (a .wc) (a .wr) (entry .pre)) (c .before .loop .inv .1)
     (c .before .before .before .before .before .before .before .before .clear .ensures) (c .before .before .before .before .count-up .ensures) (omega arith)
 
 pub build-spec : {M : Type 1} → statement M

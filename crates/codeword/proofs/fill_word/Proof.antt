@@ -1,8 +1,6 @@
 -- `codeword::fill_word` meets its contract. Assumes nothing.
-use Prim.Native.Nat.{ℕ}
-use mathlib.Core.Path.{subst⁻¹}
-use Rattle.lent.specs.Buffer.{Laid}
-use Rattle.codeword.proofs.Columns.{apart-kept}
+use Rattle.lent.proofs.Buffer.{laid-as}
+use Rattle.codeword.proofs.Columns.{rows-apart, apart-kept}
 use Rattle.codeword.proofs.Solving.{word-filled}
 use borrow.Author.Needs.{needs}
 use Rattle.codeword.proofs.fill_word.Statement.{statement}
@@ -13,9 +11,12 @@ place-message-requires c κs = search needs
 
 solve-checks-requires : tie.Need-solve-checks-requires
 solve-checks-requires c κs =
-    let a = c .before .before .before .before .before .before .args .a in
+    let s = c .before .before .before .before .before .before in
     let placed = c .before .before .before .place-message .ensures in
-    (subst⁻¹ (λ (n : ℕ). Laid a n) (placed .changed .long) (c .before .before .before .before .before .before .pre .0), apart-kept a (c .before .before .before .before .before .before .args .work .now) (c .before .before .before .place-message .last .0) (c .before .before .before .before .before .before .pre .0) (placed .changed) (c .before .before .before .before .before .before .pre .1))
+    let apart = rows-apart (s .args .a) (s .pre .1 .matrix) (s .args .work .now) (s .pre .1 .whole) in (
+      laid-as (s .pre .0) (placed .changed .long),
+      apart-kept (s .args .a) (s .args .work .now) (c .before .before .before .place-message .last .0) (s .pre .0) (placed .changed) apart,
+    )
 
 same-length : tie.Need-same-length
 same-length c = search needs

@@ -11,7 +11,7 @@ same-length : tie.Need-same-length
 same-length c = search needs
 
 returns : tie.Need-returns
-returns c = message-read (c .before .before .before .before .before .pre) (c .before .before .gather .ensures)
+returns c = message-read (c .before .before .before .before .before .pre .0) (c .before .before .gather .ensures)
 
 pub read-message-spec : {M : Type 1} → statement M
 read-message-spec = tie.close (tie.spec gather-requires same-length returns)

@@ -1,4 +1,5 @@
 -- `ldpc::build` meets its contract. Assumes nothing.
+use Prim.Native.Nat.{_/_}
 use mathlib.Core.Path.{subst}
 use Rattle.lent.specs.declared.Areas.{Areas}
 use Rattle.check_matrix.specs.Build.{Built}
@@ -15,13 +16,18 @@ div-build : tie.Need-div-build
 div-build c = search needs
 
 build-requires : tie.Need-build-requires
-build-requires c κs = build-fits (c .before .before .before .before .pre .0) (c .before .before .before .before .pre .1) (c .before .areas .result) (c .before .areas .ensures)
+build-requires c κs =
+    let s = (c .before .before .before .before) in
+    build-fits (s .pre .0) (s .pre .1) (c .before .areas .result) (c .before .areas .ensures)
 
 same-length : tie.Need-same-length
 same-length c = search needs
 
 returns : tie.Need-returns
-returns c = rows-built (subst (λ (a : Areas). Built a (c .before .before .before .before .before .before .before .args .s .block) (c .before .before .before .before .before .before .before .args .s .wr) (c .before .before .before .before .before .before .before .args .work .now) (c .before .before .build .last .0)) (c .before .before .before .before .areas .ensures) (c .before .before .build .ensures))
+returns c =
+    let s = (c .before .before .before .before .before .before .before) in
+    let b = c .before .before .build in
+    rows-built (subst (λ (a : Areas). Built a (s .args .s .block) (s .args .s .checks / s .args .s .block) (s .args .s .wr) (s .args .work .now) (b .last .0)) (c .before .before .before .before .areas .ensures) (b .ensures))
 
 pub build-spec : {M : Type 1} → statement M
 build-spec = tie.close (tie.spec areas-requires div-build build-requires same-length returns)

@@ -1,13 +1,15 @@
 -- `ldpc::encode` meets its contract. Assumes nothing.
+use Prim.Native.Nat.{ℕ}
 use mathlib.Core.Path.{subst, subst⁻¹}
+use mathlib.Core.List.{List}
 use lib.ListN.{length}
 use Rattle.symbology.specs.Bits.{AllBits}
 use Rattle.lent.specs.declared.Areas.{Areas}
 use Rattle.lent.specs.Buffer.{part, Laid}
 use Rattle.lent.proofs.Buffer.{laid-as}
 use Rattle.dense.specs.Dense.{denseBits}
-use Rattle.elimination.specs.Reduced.{Eliminated}
-use Rattle.codeword.specs.Columns.{RowsApart, WordFilled}
+use Rattle.elimination.specs.Reduced.{Eliminated, HoldsElimination}
+use Rattle.codeword.specs.Columns.{WordFilled}
 use Rattle.ldpc.proofs.Work.{areas-laid}
 use Rattle.ldpc.proofs.Stages.{fill-fits, encoded}
 use borrow.Author.Needs.{needs}
@@ -21,22 +23,33 @@ build-requires : tie.Need-build-requires
 build-requires c κs = search needs
 
 eliminate-requires : tie.Need-eliminate-requires
-eliminate-requires c κs = subst⁻¹ (λ (a : Areas). Laid a (length (c .before .before .before .build .last .0))) (c .before .before .before .before .before .areas .ensures) (laid-as (areas-laid (c .before .before .before .before .before .before .before .pre .0) (c .before .before .before .before .before .before .before .pre .1)) (c .before .before .before .build .ensures .changed .long))
+eliminate-requires c κs =
+    let s = (c .before .before .before .before .before .before .before) in
+    let built : List ℕ = c .before .before .before .build .last .0 in
+    subst⁻¹ (λ (a : Areas). Laid a (length built)) (c .before .before .before .before .before .areas .ensures) (laid-as (areas-laid (s .pre .0) (s .pre .1)) (c .before .before .before .build .ensures .changed .long))
 
 fill-word-requires : tie.Need-fill-word-requires
 fill-word-requires c κs =
-    subst⁻¹ (λ (a : Areas). Laid a (length (c .before .before .before .eliminate .last .0)) × RowsApart a (c .before .before .before .eliminate .last .0) × AllBits (part (c .before .before .before .eliminate .last .0) (a .message) (a .net))) (c .before .before .before .before .before .before .before .before .before .areas .ensures)
-    (fill-fits (c .before .before .before .before .before .before .before .before .before .before .before .args .s) (areas-laid (c .before .before .before .before .before .before .before .before .before .before .before .pre .0) (c .before .before .before .before .before .before .before .before .before .before .before .pre .1)) (c .before .before .before .before .before .before .before .build .ensures)
-    (subst (λ (a : Areas). Eliminated a (denseBits (c .before .before .before .before .before .before .before .build .last .0) (a .stride)) (c .before .before .before .before .before .before .before .build .last .0) (c .before .before .before .eliminate .last .0)) (c .before .before .before .before .before .before .before .before .before .areas .ensures) (c .before .before .before .eliminate .ensures)) (c .before .before .before .before .before .before .before .before .before .before .before .pre .2))
+    let s = (c .before .before .before .before .before .before .before .before .before .before .before) in
+    let built : List ℕ = c .before .before .before .before .before .before .before .build .last .0 in
+    let e = c .before .before .before .eliminate in
+    subst⁻¹ (λ (a : Areas). Laid a (length (e .last .0)) × HoldsElimination a (e .last .0) × AllBits (part (e .last .0) (a .message) (a .net)))
+    (c .before .before .before .before .before .before .before .before .before .areas .ensures)
+    (fill-fits (s .args .s) (areas-laid (s .pre .0) (s .pre .1)) (c .before .before .before .before .before .before .before .build .ensures)
+    (subst (λ (a : Areas). Eliminated a (denseBits built (a .stride)) built (e .last .0)) (c .before .before .before .before .before .before .before .before .before .areas .ensures) (e .ensures)) (s .pre .2))
 
 same-length : tie.Need-same-length
 same-length c = search needs
 
 returns : tie.Need-returns
 returns c =
-    encoded (c .before .before .before .before .before .before .before .before .before .before .before .before .before .before .args .s) (areas-laid (c .before .before .before .before .before .before .before .before .before .before .before .before .before .before .pre .0) (c .before .before .before .before .before .before .before .before .before .before .before .before .before .before .pre .1)) (c .before .before .before .before .before .before .before .before .before .before .build .ensures)
-    (subst (λ (a : Areas). Eliminated a (denseBits (c .before .before .before .before .before .before .before .before .before .before .build .last .0) (a .stride)) (c .before .before .before .before .before .before .before .before .before .before .build .last .0) (c .before .before .before .before .before .before .eliminate .last .0)) (c .before .before .before .before .before .before .before .before .before .before .before .before .areas .ensures) (c .before .before .before .before .before .before .eliminate .ensures))
-    (subst (λ (a : Areas). WordFilled a (c .before .before .before .before .before .before .eliminate .last .0) (c .before .before .fill-word .last .0)) (c .before .before .before .before .before .before .before .before .before .before .before .before .areas .ensures) (c .before .before .fill-word .ensures))
+    let s = (c .before .before .before .before .before .before .before .before .before .before .before .before .before .before) in
+    let built : List ℕ = c .before .before .before .before .before .before .before .before .before .before .build .last .0 in
+    let e = c .before .before .before .before .before .before .eliminate in
+    let f = c .before .before .fill-word in
+    encoded (s .args .s) (areas-laid (s .pre .0) (s .pre .1)) (c .before .before .before .before .before .before .before .before .before .before .build .ensures)
+    (subst (λ (a : Areas). Eliminated a (denseBits built (a .stride)) built (e .last .0)) (c .before .before .before .before .before .before .before .before .before .before .before .before .areas .ensures) (e .ensures))
+    (subst (λ (a : Areas). WordFilled a (e .last .0) (f .last .0)) (c .before .before .before .before .before .before .before .before .before .before .before .before .areas .ensures) (f .ensures))
 
 pub encode-spec : {M : Type 1} → statement M
 encode-spec =

@@ -1,5 +1,7 @@
 -- `ldpc::mend` meets its contract. Assumes nothing.
+use Prim.Native.Nat.{ℕ}
 use mathlib.Core.Path.{subst, subst⁻¹}
+use mathlib.Core.List.{List}
 use lib.ListN.{length}
 use Rattle.lent.specs.declared.Areas.{Areas}
 use Rattle.lent.specs.Buffer.{Laid}
@@ -18,16 +20,21 @@ areas-requires c κs = search needs
 
 mend-requires : tie.Need-mend-requires
 mend-requires c κs =
-    subst⁻¹ (λ (a : Areas). Laid a (length (c .before .before .before .before .build .last .0)) × BitsIn a (c .before .before .before .before .build .last .0)) (c .areas .ensures)
-    (mend-fits (c .before .before .before .before .before .before .before .args .s) (areas-laid (c .before .before .before .before .before .before .before .pre .0) (c .before .before .before .before .before .before .before .pre .1)) (c .before .before .before .before .build .ensures) (c .before .before .before .before .before .before .before .pre .2))
+    let s = (c .before .before .before .before .before .before .before) in
+    let built : List ℕ = c .before .before .before .before .build .last .0 in
+    subst⁻¹ (λ (a : Areas). Laid a (length built) × BitsIn a built) (c .areas .ensures)
+    (mend-fits (s .args .s) (areas-laid (s .pre .0) (s .pre .1)) (c .before .before .before .before .build .ensures) (s .pre .2))
 
 same-length : tie.Need-same-length
 same-length c = search needs
 
 returns : tie.Need-returns
 returns c =
-    mended (c .before .before .before .before .before .before .before .before .before .before .args .s) (areas-laid (c .before .before .before .before .before .before .before .before .before .before .pre .0) (c .before .before .before .before .before .before .before .before .before .before .pre .1)) (c .before .before .before .before .before .before .before .build .ensures)
-    (subst (λ (a : Areas). MendedBy a (c .before .before .before .before .before .before .before .build .last .0) (c .before .before .mend .last .0) (c .before .before .mend .result .repairs) (c .before .before .mend .result .unmet) (c .before .before .mend .result .stuck)) (c .before .before .before .areas .ensures) (c .before .before .mend .ensures))
+    let s = (c .before .before .before .before .before .before .before .before .before .before) in
+    let built : List ℕ = c .before .before .before .before .before .before .before .build .last .0 in
+    let m = c .before .before .mend in
+    mended (s .args .s) (areas-laid (s .pre .0) (s .pre .1)) (c .before .before .before .before .before .before .before .build .ensures)
+    (subst (λ (a : Areas). MendedBy a built (m .last .0) (m .result .repairs) (m .result .unmet) (m .result .stuck)) (c .before .before .before .areas .ensures) (m .ensures))
 
 pub mend-spec : {M : Type 1} → statement M
 mend-spec = tie.close (tie.spec build-requires areas-requires mend-requires same-length returns)

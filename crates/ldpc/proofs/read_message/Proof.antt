@@ -1,5 +1,7 @@
 -- `ldpc::read_message` meets its contract. Assumes nothing.
 use mathlib.Core.Path.{subst, subst⁻¹}
+use mathlib.Core.List.{List}
+use Prim.Native.Nat.{ℕ}
 use lib.ListN.{length}
 use Rattle.lent.specs.declared.Areas.{Areas}
 use Rattle.lent.specs.Buffer.{Laid}
@@ -17,19 +19,32 @@ areas-requires : tie.Need-areas-requires
 areas-requires c κs = search needs
 
 eliminate-requires : tie.Need-eliminate-requires
-eliminate-requires c κs = subst⁻¹ (λ (a : Areas). Laid a (length (c .before .before .before .args .work .now))) (c .before .areas .ensures) (areas-laid (c .before .before .before .pre .0) (c .before .before .before .pre .1))
+eliminate-requires c κs =
+    let s = (c .before .before .before) in
+    subst⁻¹ (λ (a : Areas). Laid a (length (s .args .work .now))) (c .before .areas .ensures) (areas-laid (s .pre .0) (s .pre .1))
 
 read-message-requires : tie.Need-read-message-requires
-read-message-requires c κs = subst⁻¹ (λ (a : Areas). Laid a (length (c .before .before .before .eliminate .last .0))) (c .before .before .before .before .before .areas .ensures) (laid-as (areas-laid (c .before .before .before .before .before .before .before .pre .0) (c .before .before .before .before .before .before .before .pre .1)) (c .before .before .before .eliminate .ensures .changed .long))
+read-message-requires c κs =
+    let s = (c .before .before .before .before .before .before .before) in
+    let e = c .before .before .before .eliminate in
+    let laid : Laid (c .before .before .before .before .before .areas .result) (length (s .args .work .now)) =
+    subst⁻¹ (λ (a : Areas). Laid a (length (s .args .work .now))) (c .before .before .before .before .before .areas .ensures) (areas-laid (s .pre .0) (s .pre .1)) in (
+      laid-as laid (e .ensures .changed .long),
+      record { matrix = denseBits (s .args .work .now) (c .before .before .before .before .before .areas .result .stride); whole = e .ensures .whole },
+    )
 
 same-length : tie.Need-same-length
 same-length c = search needs
 
 returns : tie.Need-returns
 returns c =
-    message-for (c .before .before .before .before .before .before .before .before .before .before .args .s) (areas-laid (c .before .before .before .before .before .before .before .before .before .before .pre .0) (c .before .before .before .before .before .before .before .before .before .before .pre .1)) (c .before .before .before .before .before .before .before .before .before .before .pre .2)
-    (subst (λ (a : Areas). Eliminated a (denseBits (c .before .before .before .before .before .before .before .before .before .before .args .work .now) (a .stride)) (c .before .before .before .before .before .before .before .before .before .before .args .work .now) (c .before .before .before .before .before .before .eliminate .last .0)) (c .before .before .before .before .before .before .before .before .areas .ensures) (c .before .before .before .before .before .before .eliminate .ensures))
-    (subst (λ (a : Areas). MessageRead a (c .before .before .before .before .before .before .eliminate .last .0) (c .before .before .read-message .last .0) (c .before .before .read-message .result)) (c .before .before .before .before .before .before .before .before .areas .ensures) (c .before .before .read-message .ensures))
+    let s = (c .before .before .before .before .before .before .before .before .before .before) in
+    let entry : List ℕ = s .args .work .now in
+    let e = c .before .before .before .before .before .before .eliminate in
+    let r = c .before .before .read-message in
+    message-for (s .args .s) (areas-laid (s .pre .0) (s .pre .1)) (s .pre .2)
+    (subst (λ (a : Areas). Eliminated a (denseBits entry (a .stride)) entry (e .last .0)) (c .before .before .before .before .before .before .before .before .areas .ensures) (e .ensures))
+    (subst (λ (a : Areas). MessageRead a (e .last .0) (r .last .0) (r .result)) (c .before .before .before .before .before .before .before .before .areas .ensures) (r .ensures))
 
 pub read-message-spec : {M : Type 1} → statement M
 read-message-spec =
