@@ -64,7 +64,8 @@ gathered-start a work =
       spare-is = sym (ap anyOne (drop-of-length-le [] {i = a .net} (omega arith)));
     }
 
-module _ {a : Areas} {before after : List ℕ} {j m : ℕ} {spare : Bool} (laid : Laid a (length before)) (s : GatheredTo a before after j m spare) (h : j < a .gross) where
+module _ {a : Areas} {before after : List ℕ} {j m : ℕ} {spare : Bool} (laid : Laid a (length before))
+    (s : GatheredTo a before after j m spare) (h : j < a .gross) where
   -- numbers and word stay
   number-kept : isMessage a after j ≡ isMessage a before j
   number-kept =
@@ -177,7 +178,8 @@ message-read {a} {before} {after} laid g =
           let same : gatheredBits a before ≡ messageBits (a .checks) (a .gross) m (part before (a .word) (a .gross)) =
           ap (map (λ j. getD (part before (a .word) (a .gross)) j 0)) (all-messages a m before e) in
           let enough : a .net ≤ length (gatheredBits a before) =
-          omega (arith, ap length same, length-map (messageColumns (a .checks) (a .gross) m) (λ j. getD (part before (a .word) (a .gross)) j 0), enough-columns (a .checks) (a .gross) m, laid .parts) in
+          (let long = length-map (messageColumns (a .checks) (a .gross) m) (λ j. getD (part before (a .word) (a .gross)) j 0) in
+          omega (arith, ap length same, long, enough-columns (a .checks) (a .gross) m, laid .parts)) in
           part-is after (a .message) (a .net) (take (a .net) (gatheredBits a before)) (omega (arith, g .changed .long, laid .message-end))
           (length-take-le (a .net) (gatheredBits a before) enough)
           (λ i h. g .stored i h (omega arith) ∙ sym (getD-take (a .net) (gatheredBits a before) i 0 h))

@@ -43,8 +43,8 @@ sum-agree (suc n) f v w same =
     last true e = ap (λ (x : ℕ). x + 0) (same n (omega arith) e)
     last false e = refl
 
-parity-agree : (n : ℕ) (f g : ℕ → Bool) (v w : List ℕ) → ((j : ℕ) → j < n → f j ≡ g j) → ((j : ℕ) → j < n → g j ≡ true → getD v j 0 ≡ getD w j 0)
-    → unmet (those n f) v ≡ unmet (those n g) w
+parity-agree : (n : ℕ) (f g : ℕ → Bool) (v w : List ℕ) → ((j : ℕ) → j < n → f j ≡ g j)
+    → ((j : ℕ) → j < n → g j ≡ true → getD v j 0 ≡ getD w j 0) → unmet (those n f) v ≡ unmet (those n g) w
 unfolding unmet
 parity-agree n f g v w rows same =
     ap (λ (l : List ℕ). bitSum l v % 2) (those-ext n f g rows) ∙ ap (λ (x : ℕ). x % 2) (sum-agree n g v w same)
@@ -177,7 +177,8 @@ module _ {a : Areas} {before mid after : List ℕ} (laid : Laid a (length before
   w-at c h = part-at after (a .word) (a .gross) c h ∙ s .solved c h
 
   -- the placed word: net bits in message columns, 0 in check columns
-  placed-message : (c : ℕ) → c < a .gross → chk c ≡ false → getD mid (a .word + c) 0 ≡ getD (part before (a .message) (a .net)) (length (those c (λ j. not (chk j)))) 0
+  placed-message : (c : ℕ) → c < a .gross → chk c ≡ false
+      → getD mid (a .word + c) 0 ≡ getD (part before (a .message) (a .net)) (length (those c (λ j. not (chk j)))) 0
   unfolding chk
   placed-message c h z =
       p .placed c h

@@ -36,7 +36,9 @@ loop-less c = search needs
 
 loop-again : tie.Need-loop-again Inv-loop μ-loop
 loop-again c =
-    counting-next (c .before .before .before .before .before .loop .inv) (c .before .before .before .before .before .before .before .pre .1) (omega arith)
+    let pre = c .before .before .before .before .before .before .before .pre in
+    let loop = c .before .before .before .before .before .loop in
+    counting-next (loop .inv) (pre .1) (omega arith)
     (c .before .before .put-number .ensures)
 
 same-length : tie.Need-same-length Inv-loop μ-loop

@@ -22,7 +22,10 @@ same-length : tie.Need-same-length
 same-length c = search needs
 
 returns : tie.Need-returns
-returns c = word-filled (c .before .before .before .before .before .before .before .before .before .pre .0) (c .before .before .before .before .before .before .before .before .before .pre .2) (c .before .before .before .before .before .before .place-message .ensures) (c .before .before .solve-checks .ensures)
+returns c =
+    let pre = c .before .before .before .before .before .before .before .before .before .pre in
+    let place-message = c .before .before .before .before .before .before .place-message in
+    word-filled (pre .0) (pre .2) (place-message .ensures) (c .before .before .solve-checks .ensures)
 
 pub fill-word-spec : {M : Type 1} → statement M
 fill-word-spec =

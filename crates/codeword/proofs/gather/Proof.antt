@@ -25,22 +25,34 @@ mul-number-at : tie.Need-mul-number-at Inv-loop μ-loop
 mul-number-at c = omega (arith, c .before .before .before .before .before .pre .few)
 
 add-number-at : tie.Need-add-number-at Inv-loop μ-loop
-add-number-at c = omega (arith, c .before .before .before .before .before .pre .numbers-end, c .before .before .before .before .before .pre .message-end)
+add-number-at c =
+    let pre = c .before .before .before .before .before .pre in
+    omega (arith, pre .numbers-end, pre .message-end)
 
 number-at-requires : tie.Need-number-at-requires Inv-loop μ-loop
-number-at-requires c κs = omega (arith, c .before .before .before .loop .inv .2 .changed .long, c .before .before .before .before .before .pre .numbers-end, c .before .before .before .before .before .pre .message-end)
+number-at-requires c κs =
+    let pre = c .before .before .before .before .before .pre in
+    omega (arith, c .before .before .before .loop .inv .2 .changed .long, pre .numbers-end, pre .message-end)
 
 add-v : tie.Need-add-v Inv-loop μ-loop
-add-v c = omega (arith, c .before .before .before .before .before .before .before .pre .word-end, c .before .before .before .before .before .before .before .pre .numbers-end, c .before .before .before .before .before .before .before .pre .message-end)
+add-v c =
+    let pre = c .before .before .before .before .before .before .before .pre in
+    omega (arith, pre .word-end, pre .numbers-end, pre .message-end)
 
 slice-read-v : tie.Need-slice-read-v Inv-loop μ-loop
-slice-read-v c = omega (arith, c .before .before .before .before .before .before .loop .inv .2 .changed .long, c .before .before .before .before .before .before .before .before .pre .word-end, c .before .before .before .before .before .before .before .before .pre .numbers-end, c .before .before .before .before .before .before .before .before .pre .message-end)
+slice-read-v c =
+    let pre = c .before .before .before .before .before .before .before .before .pre in
+    let loop = c .before .before .before .before .before .before .loop in
+    omega (arith, loop .inv .2 .changed .long, pre .word-end, pre .numbers-end, pre .message-end)
 
 add-work : tie.Need-add-work Inv-loop μ-loop
 add-work c = omega (arith, c .before .before .before .before .before .before .before .before .before .pre .message-end)
 
 slice-write-work : tie.Need-slice-write-work Inv-loop μ-loop
-slice-write-work c = omega (arith, c .before .before .before .before .before .before .before .loop .inv .2 .changed .long, c .before .before .before .before .before .before .before .before .before .pre .message-end)
+slice-write-work c =
+    let pre = c .before .before .before .before .before .before .before .before .before .pre in
+    let loop = c .before .before .before .before .before .before .before .loop in
+    omega (arith, loop .inv .2 .changed .long, pre .message-end)
 
 add-m : tie.Need-add-m Inv-loop μ-loop
 add-m c = omega (arith, c .before .before .before .before .before .before .before .before .before .pre .few)
@@ -93,7 +105,10 @@ same-length : tie.Need-same-length Inv-loop μ-loop
 same-length c = c .before .before .loop .inv .2 .changed .long
 
 returns : tie.Need-returns Inv-loop μ-loop
-returns c = let e : c .before .before .loop .j ≡ c .before .before .before .before .args .a .gross = omega arith in gathered-all (rw e at (c .before .before .loop .inv .2))
+returns c =
+    let args = c .before .before .before .before .args in
+    let loop = c .before .before .loop in
+    let e : loop .j ≡ args .a .gross = omega arith in gathered-all (rw e at (loop .inv .2))
 
 pub gather-spec : {M : Type 1} → statement M
 gather-spec =

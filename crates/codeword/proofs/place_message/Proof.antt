@@ -24,25 +24,37 @@ mul-number-at : tie.Need-mul-number-at Inv-loop μ-loop
 mul-number-at c = omega (arith, c .before .before .before .before .before .pre .few)
 
 add-number-at : tie.Need-add-number-at Inv-loop μ-loop
-add-number-at c = omega (arith, c .before .before .before .before .before .pre .numbers-end, c .before .before .before .before .before .pre .message-end)
+add-number-at c =
+    let pre = c .before .before .before .before .before .pre in
+    omega (arith, pre .numbers-end, pre .message-end)
 
 number-at-requires : tie.Need-number-at-requires Inv-loop μ-loop
-number-at-requires c κs = omega (arith, c .before .before .before .loop .inv .2 .changed .long, c .before .before .before .before .before .pre .numbers-end, c .before .before .before .before .before .pre .message-end)
+number-at-requires c κs =
+    let pre = c .before .before .before .before .before .pre in
+    omega (arith, c .before .before .before .loop .inv .2 .changed .long, pre .numbers-end, pre .message-end)
 
 add-v : tie.Need-add-v Inv-loop μ-loop
 add-v c = omega (arith, c .before .before .before .before .before .before .before .before .pre .message-end)
 
 slice-read-v : tie.Need-slice-read-v Inv-loop μ-loop
-slice-read-v c = omega (arith, c .before .before .before .before .before .before .before .loop .inv .2 .changed .long, c .before .before .before .before .before .before .before .before .before .pre .message-end)
+slice-read-v c =
+    let pre = c .before .before .before .before .before .before .before .before .before .pre in
+    let loop = c .before .before .before .before .before .before .before .loop in
+    omega (arith, loop .inv .2 .changed .long, pre .message-end)
 
 add-m : tie.Need-add-m Inv-loop μ-loop
 add-m c = omega (arith, c .before .before .before .before .before .before .before .before .pre .few)
 
 add-work : tie.Need-add-work Inv-loop μ-loop
-add-work c = omega (arith, c .before .before .before .before .before .before .before .pre .word-end, c .before .before .before .before .before .before .before .pre .numbers-end, c .before .before .before .before .before .before .before .pre .message-end)
+add-work c =
+    let pre = c .before .before .before .before .before .before .before .pre in
+    omega (arith, pre .word-end, pre .numbers-end, pre .message-end)
 
 slice-write-work : tie.Need-slice-write-work Inv-loop μ-loop
-slice-write-work c = omega (arith, c .before .before .before .before .before .loop .inv .2 .changed .long, c .before .before .before .before .before .before .before .pre .word-end, c .before .before .before .before .before .before .before .pre .numbers-end, c .before .before .before .before .before .before .before .pre .message-end)
+slice-write-work c =
+    let pre = c .before .before .before .before .before .before .before .pre in
+    let loop = c .before .before .before .before .before .loop in
+    omega (arith, loop .inv .2 .changed .long, pre .word-end, pre .numbers-end, pre .message-end)
 
 add-j : tie.Need-add-j Inv-loop μ-loop
 add-j c = omega (arith, c .before .before .before .before .before .before .before .pre .few)
@@ -52,8 +64,11 @@ loop-less c = omega arith
 
 loop-again : tie.Need-loop-again Inv-loop μ-loop
 loop-again c =
-    let a = c .before .before .before .before .before .before .before .args .a in
-    let l = c .before .before .before .before .before .loop in
+    let args = c .before .before .before .before .before .before .before .args in
+    let pre = c .before .before .before .before .before .before .before .pre in
+    let loop = c .before .before .before .before .before .loop in
+    let a = args .a in
+    let l = loop in
     let s = l .inv .2 in
     let number : c .before .number-at .result ≡ rowOf a (l .work) (l .j) = c .before .number-at .ensures .0 in
     ⊎-elim
@@ -62,15 +77,15 @@ loop-again c =
       omega arith,
       omega (arith, way .2),
       ⊎-elim
-          (λ has. placed-net (c .before .before .before .before .before .before .before .pre) s (omega arith) t (has .0 .taken) (c .if2 .m) (c .if2 .v) (way .2) (way .3 ∙ has .2))
-          (λ none. placed-spare (c .before .before .before .before .before .before .before .pre) s (omega arith) t (none .0 .left) (c .if2 .m) (c .if2 .v) (way .2) (way .3 ∙ none .1))
+          (λ has. placed-net (pre) s (omega arith) t (has .0 .taken) (c .if2 .m) (c .if2 .v) (way .2) (way .3 ∙ has .2))
+          (λ none. placed-spare (pre) s (omega arith) t (none .0 .left) (c .if2 .m) (c .if2 .v) (way .2) (way .3 ∙ none .1))
           (way .1 .came),
     ))
     (λ way.
     let t : isMessage a (l .work) (l .j) ≡ false = lt-leb (a .checks) (rowOf a (l .work) (l .j)) (omega (arith, way .0 .left, number)) in (
       omega arith,
       omega (arith, way .1, l .inv .1),
-      placed-check (c .before .before .before .before .before .before .before .pre) s (omega arith) t (c .if2 .m) (c .if2 .v) (way .1) (way .2),
+      placed-check (pre) s (omega arith) t (c .if2 .m) (c .if2 .v) (way .1) (way .2),
     ))
     (c .if2 .came)
 
@@ -78,7 +93,10 @@ same-length : tie.Need-same-length Inv-loop μ-loop
 same-length c = c .before .before .loop .inv .2 .changed .long
 
 returns : tie.Need-returns Inv-loop μ-loop
-returns c = let e : c .before .before .loop .j ≡ c .before .before .before .before .args .a .gross = omega arith in placed-all (rw e at (c .before .before .loop .inv .2))
+returns c =
+    let args = c .before .before .before .before .args in
+    let loop = c .before .before .loop in
+    let e : loop .j ≡ args .a .gross = omega arith in placed-all (rw e at (loop .inv .2))
 
 pub place-message-spec : {M : Type 1} → statement M
 place-message-spec =

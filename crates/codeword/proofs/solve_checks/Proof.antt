@@ -27,24 +27,39 @@ mul-number-at : tie.Need-mul-number-at Inv-loop μ-loop
 mul-number-at c = omega (arith, c .before .before .before .before .before .pre .0 .few)
 
 add-number-at : tie.Need-add-number-at Inv-loop μ-loop
-add-number-at c = omega (arith, c .before .before .before .before .before .pre .0 .numbers-end, c .before .before .before .before .before .pre .0 .message-end)
+add-number-at c =
+    let pre = c .before .before .before .before .before .pre in
+    omega (arith, pre .0 .numbers-end, pre .0 .message-end)
 
 number-at-requires : tie.Need-number-at-requires Inv-loop μ-loop
-number-at-requires c κs = omega (arith, c .before .before .before .loop .inv .1 .changed .long, c .before .before .before .before .before .pre .0 .numbers-end, c .before .before .before .before .before .pre .0 .message-end)
+number-at-requires c κs =
+    let pre = c .before .before .before .before .before .pre in
+    omega (arith, c .before .before .before .loop .inv .1 .changed .long, pre .0 .numbers-end, pre .0 .message-end)
 
 parity-requires : tie.Need-parity-requires Inv-loop μ-loop
 parity-requires c κs =
-    let laid = c .before .before .before .before .before .before .before .before .pre .0 in
-    let a = c .before .before .before .before .before .before .before .before .args .a in
+    let pre = c .before .before .before .before .before .before .before .before .pre in
+    let args = c .before .before .before .before .before .before .before .before .args in
+    let loop = c .before .before .before .before .before .before .loop in
+    let laid = pre .0 in
+    let a = args .a in
     let gap = row-gap (c .before .before .number-at .result) (a .checks) (a .stride) (c .before .if2 .taken) in
-    let long = c .before .before .before .before .before .before .loop .inv .1 .changed .long in
-    (laid .wide, omega (arith, gap, long, laid .rows-end, laid .marks-end, laid .word-end, laid .numbers-end, laid .message-end), omega (arith, long, laid .word-end, laid .numbers-end, laid .message-end))
+    let long = loop .inv .1 .changed .long in (
+      laid .wide,
+      omega (arith, gap, long, laid .rows-end, laid .marks-end, laid .word-end, laid .numbers-end, laid .message-end),
+      omega (arith, long, laid .word-end, laid .numbers-end, laid .message-end),
+    )
 
 add-work : tie.Need-add-work Inv-loop μ-loop
-add-work c = omega (arith, c .before .before .before .before .before .before .before .before .before .pre .0 .word-end, c .before .before .before .before .before .before .before .before .before .pre .0 .numbers-end, c .before .before .before .before .before .before .before .before .before .pre .0 .message-end)
+add-work c =
+    let pre = c .before .before .before .before .before .before .before .before .before .pre in
+    omega (arith, pre .0 .word-end, pre .0 .numbers-end, pre .0 .message-end)
 
 slice-write-work : tie.Need-slice-write-work Inv-loop μ-loop
-slice-write-work c = omega (arith, c .before .before .before .before .before .before .before .loop .inv .1 .changed .long, c .before .before .before .before .before .before .before .before .before .pre .0 .word-end, c .before .before .before .before .before .before .before .before .before .pre .0 .numbers-end, c .before .before .before .before .before .before .before .before .before .pre .0 .message-end)
+slice-write-work c =
+    let pre = c .before .before .before .before .before .before .before .before .before .pre in
+    let loop = c .before .before .before .before .before .before .before .loop in
+    omega (arith, loop .inv .1 .changed .long, pre .0 .word-end, pre .0 .numbers-end, pre .0 .message-end)
 
 add-c : tie.Need-add-c Inv-loop μ-loop
 add-c c = omega (arith, c .before .before .before .before .before .before .before .pre .0 .few)
@@ -54,15 +69,18 @@ loop-less c = omega arith
 
 loop-again : tie.Need-loop-again Inv-loop μ-loop
 loop-again c =
-    let a = c .before .before .before .before .before .before .before .args .a in
-    let l = c .before .before .before .before .before .loop in
-    let laid = c .before .before .before .before .before .before .before .pre .0 in
+    let args = c .before .before .before .before .before .before .before .args in
+    let pre = c .before .before .before .before .before .before .before .pre in
+    let loop = c .before .before .before .before .before .loop in
+    let a = args .a in
+    let l = loop in
+    let laid = pre .0 in
     let number : c .before .number-at .result ≡ rowOf a (l .work) (l .c) = c .before .number-at .ensures .0 in
     ⊎-elim
     (λ way. (
       omega arith,
       solved-as
-          (solved-check laid (l .inv .1) (omega arith) (c .before .before .before .before .before .before .before .pre .1) (omega (arith, way .0 .taken, number)) (way .2 .result)
+          (solved-check laid (l .inv .1) (omega arith) (pre .1) (omega (arith, way .0 .taken, number)) (way .2 .result)
           (way .2 .ensures ∙ ap (λ (i : ℕ). unmet (checkOf (a .gross) (denseBits (l .work) (a .stride)) i) (part (l .work) (a .word) (a .gross))) number))
           (way .3),
     ))
@@ -77,7 +95,10 @@ same-length : tie.Need-same-length Inv-loop μ-loop
 same-length c = c .before .before .loop .inv .1 .changed .long
 
 returns : tie.Need-returns Inv-loop μ-loop
-returns c = let e : c .before .before .loop .c ≡ c .before .before .before .before .args .a .gross = omega arith in solved-all (rw e at (c .before .before .loop .inv .1))
+returns c =
+    let args = c .before .before .before .before .args in
+    let loop = c .before .before .loop in
+    let e : loop .c ≡ args .a .gross = omega arith in solved-all (rw e at (loop .inv .1))
 
 pub solve-checks-spec : {M : Type 1} → statement M
 solve-checks-spec =

@@ -46,7 +46,9 @@ loop-less : tie.Need-loop-less Inv-loop μ-loop
 loop-less c = omega arith
 
 loop-again : tie.Need-loop-again Inv-loop μ-loop
-loop-again c = (omega arith, added-next (c .before .before .before .loop .inv .1) (c .before .before .before .before .pre .0) (omega arith) (omega arith))
+loop-again c =
+    let pre = c .before .before .before .before .pre in
+    (omega arith, added-next (c .before .before .before .loop .inv .1) (pre .0) (omega arith) (omega arith))
 
 same-length : tie.Need-same-length Inv-loop μ-loop
 same-length c = c .before .loop .inv .1 .changed .long

@@ -27,7 +27,9 @@ unfolding those unmet bitSum
 loop-holds c = (omega arith, omega arith, refl)
 
 bit-requires : tie.Need-bit-requires Inv-loop μ-loop
-bit-requires c κs = omega (arith, in-row (c .before .before .before .args .n) (c .before .before .before .args .stride) (c .before .loop .j) (c .before .before .before .pre .0) (omega arith))
+bit-requires c κs =
+    let args = c .before .before .before .args in
+    omega (arith, in-row (args .n) (args .stride) (c .before .loop .j) (c .before .before .before .pre .0) (omega arith))
 
 add-odd : tie.Need-add-odd Inv-loop μ-loop
 add-odd c = omega arith
@@ -46,14 +48,19 @@ loop-less c = omega arith
 
 loop-again : tie.Need-loop-again Inv-loop μ-loop
 loop-again c =
-    let a = c .before .before .before .before .before .args in
+    let args = c .before .before .before .before .before .args in
+    let a = args in
     let l = c .before .before .before .loop in
     let f : ℕ → Bool = denseBits (a .xs .now) (a .stride) (a .i) in
     let w : List ℕ = part (a .xs .now) (a .word) (a .n) in
     let there : getD w (l .j) 0 ≡ getD (a .xs .now) (a .word + l .j) 0 = part-at (a .xs .now) (a .word) (a .n) (l .j) (omega arith) in
     ⊎-elim
-    (λ way. let s = parity-in f (l .j) w (sym (c .before .bit .ensures) ∙ way .0 .taken) in (omega arith, omega (arith, way .2), omega (arith, way .2, s, l .inv .2)))
-    (λ way. let s = parity-out f (l .j) w (sym (c .before .bit .ensures) ∙ way .0 .left) in (omega arith, omega (arith, way .1, l .inv .1), omega (arith, way .1, s, l .inv .2)))
+    (λ way.
+    let s = parity-in f (l .j) w (sym (c .before .bit .ensures) ∙ way .0 .taken) in
+    (omega arith, omega (arith, way .2), omega (arith, way .2, s, l .inv .2)))
+    (λ way.
+    let s = parity-out f (l .j) w (sym (c .before .bit .ensures) ∙ way .0 .left) in
+    (omega arith, omega (arith, way .1, l .inv .1), omega (arith, way .1, s, l .inv .2)))
     (c .if1 .came)
 
 returns : tie.Need-returns Inv-loop μ-loop

@@ -15,16 +15,25 @@ abbrev μ-loop : tie.MeasureT-loop
 μ-loop work₀ t j k stride i₀ work i = k - i
 
 loop-holds : tie.Need-loop-holds Inv-loop μ-loop
-loop-holds c = (omega arith, cleared-none (c .before .args .a .checks) (c .before .args .a .stride) (c .before .args .t) (c .before .args .j) (c .before .args .work .now))
+loop-holds c =
+    let args = c .before .args in
+    (omega arith, cleared-none (args .a .checks) (args .a .stride) (args .t) (args .j) (args .work .now))
 
 bit-requires : tie.Need-bit-requires Inv-loop μ-loop
-bit-requires c κs = let l = bit-inside (c .before .before .before .before .before .pre .0) (c .before .before .before .loop .i) (c .before .before .before .before .before .args .j) (omega arith) (c .before .before .before .before .before .pre .2) in omega (arith, l, c .before .before .before .loop .inv .1 .changed .long)
+bit-requires c κs =
+    let pre = c .before .before .before .before .before .pre in
+    let args = c .before .before .before .before .before .args in
+    let loop = c .before .before .before .loop in
+    let l = bit-inside (pre .0) (loop .i) (args .j) (omega arith) (pre .2) in omega (arith, l, loop .inv .1 .changed .long)
 
 add-row-requires : tie.Need-add-row-requires Inv-loop μ-loop
 add-row-requires c κs =
-    let own = row-inside (c .before .before .before .before .before .before .before .before .pre .0) (c .before .before .before .before .before .before .before .before .args .t) (c .before .before .before .before .before .before .before .before .pre .1) in
-    let other = row-inside (c .before .before .before .before .before .before .before .before .pre .0) (c .before .before .before .before .before .before .loop .i) (omega arith) in
-    (λ same. omega arith, omega (arith, other, c .before .before .before .before .before .before .loop .inv .1 .changed .long), omega (arith, own, c .before .before .before .before .before .before .loop .inv .1 .changed .long))
+    let pre = c .before .before .before .before .before .before .before .before .pre in
+    let args = c .before .before .before .before .before .before .before .before .args in
+    let loop = c .before .before .before .before .before .before .loop in
+    let own = row-inside (pre .0) (args .t) (pre .1) in
+    let other = row-inside (pre .0) (loop .i) (omega arith) in
+    (λ same. omega arith, omega (arith, other, loop .inv .1 .changed .long), omega (arith, own, loop .inv .1 .changed .long))
 
 add-i : tie.Need-add-i Inv-loop μ-loop
 add-i c = omega arith
@@ -34,9 +43,11 @@ loop-less c = omega arith
 
 loop-again : tie.Need-loop-again Inv-loop μ-loop
 loop-again c =
-    let a = c .before .before .before .before .args .a in
+    let args = c .before .before .before .before .args in
+    let pre = c .before .before .before .before .pre in
+    let a = args .a in
     let r = c .before .before .loop .inv .1 in
-    let inside : c .before .before .before .before .args .j / 8 < a .stride = in-row (a .gross) (a .stride) (c .before .before .before .before .args .j) (c .before .before .before .before .pre .0 .wide) (c .before .before .before .before .pre .2) in (
+    let inside : args .j / 8 < a .stride = in-row (a .gross) (a .stride) (args .j) (pre .0 .wide) (pre .2) in (
       omega arith,
       ⊎-elim
           (λ way. rw (way .8) (cleared-add r (omega arith) inside (λ same. omega (arith, way .0 .taken)) (sym (way .2 .ensures) ∙ way .3 .taken) (way .5 .ensures)))
@@ -48,7 +59,10 @@ same-length : tie.Need-same-length Inv-loop μ-loop
 same-length c = c .before .loop .inv .1 .changed .long
 
 returns : tie.Need-returns Inv-loop μ-loop
-returns c = let e : c .before .loop .i ≡ c .before .before .before .args .a .checks = omega arith in cleared-all (c .before .before .before .pre .0) (rw e at (c .before .loop .inv .1))
+returns c =
+    let s = c .before .before .before in
+    let e : c .before .loop .i ≡ s .args .a .checks = omega arith in
+    cleared-all (s .pre .0) (rw e at (c .before .loop .inv .1))
 
 pub clear-column-spec : {M : Type 1} → statement M
 clear-column-spec =

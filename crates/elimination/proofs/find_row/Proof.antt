@@ -30,13 +30,18 @@ shared-slice-read-if1 : tie.Need-shared-slice-read-if1 Inv-loop μ-loop
 shared-slice-read-if1 c = omega arith
 
 bit-requires : tie.Need-bit-requires Inv-loop μ-loop
-bit-requires c κs = bit-inside (c .before .before .before .before .before .pre .0) (c .before .before .before .loop .i) (c .before .before .before .before .before .args .j) (omega arith) (c .before .before .before .before .before .pre .1)
+bit-requires c κs =
+    let pre = c .before .before .before .before .before .pre in
+    let args = c .before .before .before .before .before .args in
+    bit-inside (pre .0) (c .before .before .before .loop .i) (args .j) (omega arith) (pre .1)
 
 returns : tie.Need-returns Inv-loop μ-loop
 returns c =
-    let a = c .before .before .before .before .before .before .before .args in
-    let i : ℕ = c .before .before .before .before .before .loop .i in
-    sym (search-found (isFree (a .a) (a .work .now) (a .j)) (a .a .checks) i (c .before .before .before .before .before .loop .inv) (omega arith)
+    let args = c .before .before .before .before .before .before .before .args in
+    let loop = c .before .before .before .before .before .loop in
+    let a = args in
+    let i : ℕ = loop .i in
+    sym (search-found (isFree (a .a) (a .work .now) (a .j)) (a .a .checks) i (loop .inv) (omega arith)
     (ap₂ (λ (x y : Bool). x && y) (eq-eqb (getD (a .work .now) (a .a .marks + i) 0) 0 (c .before .before .if1 .taken)) (sym (c .before .bit .ensures) ∙ c .if2 .taken)))
 
 add-i : tie.Need-add-i Inv-loop μ-loop
@@ -47,9 +52,11 @@ loop-less c = omega arith
 
 loop-again : tie.Need-loop-again Inv-loop μ-loop
 loop-again c =
-    let a = c .before .before .before .before .before .args in
-    let i : ℕ = c .before .before .before .loop .i in
-    let next = search-next (isFree (a .a) (a .work .now) (a .j)) (a .a .checks) i (c .before .before .before .loop .inv) (omega arith) in
+    let args = c .before .before .before .before .before .args in
+    let loop = c .before .before .before .loop in
+    let a = args in
+    let i : ℕ = loop .i in
+    let next = search-next (isFree (a .a) (a .work .now) (a .j)) (a .a .checks) i (loop .inv) (omega arith) in
     ⊎-elim
     (λ way.
     next (ap (λ (b : Bool). eqb (getD (a .work .now) (a .a .marks + i) 0) 0 && b) (sym (way .1 .ensures) ∙ way .2 .left)
@@ -58,7 +65,9 @@ loop-again c =
     (c .if1 .came)
 
 returns-2 : tie.Need-returns-2 Inv-loop μ-loop
-returns-2 c = omega (arith, search-none (isFree (c .before .before .before .args .a) (c .before .before .before .args .work .now) (c .before .before .before .args .j)) (c .before .before .before .args .a .checks) (c .before .loop .i) (c .before .loop .inv) (omega arith))
+returns-2 c =
+    let args = c .before .before .before .args in
+    omega (arith, search-none (isFree (args .a) (args .work .now) (args .j)) (args .a .checks) (c .before .loop .i) (c .before .loop .inv) (omega arith))
 
 pub find-row-spec : {M : Type 1} → statement M
 find-row-spec =

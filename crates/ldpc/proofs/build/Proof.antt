@@ -27,7 +27,8 @@ returns : tie.Need-returns
 returns c =
     let s = (c .before .before .before .before .before .before .before) in
     let b = c .before .before .build in
-    rows-built (subst (λ (a : Areas). Built a (s .args .s .block) (s .args .s .checks / s .args .s .block) (s .args .s .wr) (s .args .work .now) (b .last .0)) (c .before .before .before .before .areas .ensures) (b .ensures))
+    let z = s .args .s in
+    rows-built (subst (λ (a : Areas). Built a (z .block) (z .checks / z .block) (z .wr) (s .args .work .now) (b .last .0)) (c .before .before .before .before .areas .ensures) (b .ensures))
 
 pub build-spec : {M : Type 1} → statement M
 build-spec = tie.close (tie.spec areas-requires div-build build-requires same-length returns)

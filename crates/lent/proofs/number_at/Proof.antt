@@ -25,10 +25,14 @@ mul-result : tie.Need-mul-result
 mul-result c = omega (arith, c .before .shared-slice-known .given (c .before .before .args .at + 1))
 
 add-result-2 : tie.Need-add-result-2
-add-result-2 c = omega (arith, c .before .shared-slice-known .given (c .before .before .args .at), c .before .shared-slice-known .given (c .before .before .args .at + 1))
+add-result-2 c =
+    let args = c .before .before .args in
+    omega (arith, c .before .shared-slice-known .given (args .at), c .before .shared-slice-known .given (args .at + 1))
 
 returns : tie.Need-returns
-returns c = (refl, omega (arith, c .before .shared-slice-known .given (c .before .before .args .at), c .before .shared-slice-known .given (c .before .before .args .at + 1)))
+returns c =
+    let args = c .before .before .args in
+    (refl, omega (arith, c .before .shared-slice-known .given (args .at), c .before .shared-slice-known .given (args .at + 1)))
 
 pub number-at-spec : {M : Type 1} → statement M
 number-at-spec =

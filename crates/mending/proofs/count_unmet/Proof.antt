@@ -22,10 +22,14 @@ shared-slice-read-n : tie.Need-shared-slice-read-n Inv-loop μ-loop
 shared-slice-read-n c = omega (arith, c .before .before .before .pre .0)
 
 cast-n : tie.Need-cast-n Inv-loop μ-loop
-cast-n c = omega (arith, mark-bit (c .before .before .before .args .a) (c .before .before .before .args .work .now) (c .before .before .before .pre .1) (c .before .before .loop .i) (omega arith))
+cast-n c =
+    let args = c .before .before .before .args in
+    omega (arith, mark-bit (args .a) (args .work .now) (c .before .before .before .pre .1) (c .before .before .loop .i) (omega arith))
 
 add-n-2 : tie.Need-add-n-2 Inv-loop μ-loop
-add-n-2 c = omega (arith, mark-bit (c .before .before .before .args .a) (c .before .before .before .args .work .now) (c .before .before .before .pre .1) (c .before .before .loop .i) (omega arith))
+add-n-2 c =
+    let args = c .before .before .before .args in
+    omega (arith, mark-bit (args .a) (args .work .now) (c .before .before .before .pre .1) (c .before .before .loop .i) (omega arith))
 
 add-i : tie.Need-add-i Inv-loop μ-loop
 add-i c = omega arith
@@ -34,7 +38,10 @@ loop-less : tie.Need-loop-less Inv-loop μ-loop
 loop-less c = omega arith
 
 loop-again : tie.Need-loop-again Inv-loop μ-loop
-loop-again c = summed-next (c .before .before .loop .inv) (omega arith) (mark-bit (c .before .before .before .args .a) (c .before .before .before .args .work .now) (c .before .before .before .pre .1) (c .before .before .loop .i) (omega arith))
+loop-again c =
+    let args = c .before .before .before .args in
+    let loop = c .before .before .loop in
+    summed-next (loop .inv) (omega arith) (mark-bit (args .a) (args .work .now) (c .before .before .before .pre .1) (loop .i) (omega arith))
 
 returns : tie.Need-returns Inv-loop μ-loop
 returns c =

@@ -23,13 +23,19 @@ abbrev μ-bits : tie.MeasureT-bits
 μ-bits work k n stride marks j₀ j = n - j
 
 bits-holds : tie.Need-bits-holds Inv-loop μ-loop Inv-bits μ-bits
-bits-holds c = search-start (suspectBy (c .before .args .work .now) (c .before .args .a .checks) (c .before .args .a .stride) (c .before .args .a .marks)) (c .before .args .a .gross)
+bits-holds c =
+    let args = c .before .args in
+    search-start (suspectBy (args .work .now) (args .a .checks) (args .a .stride) (args .a .marks)) (args .a .gross)
 
 loop-holds : tie.Need-loop-holds Inv-loop μ-loop Inv-bits μ-bits
-loop-holds c = passed-start (c .before .before .before .args .work .now) (c .before .before .before .args .a .checks) (c .before .before .before .args .a .stride) (c .before .before .before .args .a .marks) (c .before .bits .j)
+loop-holds c =
+    let args = c .before .before .before .args in
+    passed-start (args .work .now) (args .a .checks) (args .a .stride) (args .a .marks) (c .before .bits .j)
 
 bit-requires : tie.Need-bit-requires Inv-loop μ-loop Inv-bits μ-bits
-bit-requires c κs = omega (arith, bit-inside (c .before .before .before .before .before .pre .0) (c .before .loop .i) (c .before .before .before .bits .j) (omega arith) (omega arith))
+bit-requires c κs =
+    let pre = c .before .before .before .before .before .pre in
+    omega (arith, bit-inside (pre .0) (c .before .loop .i) (c .before .before .before .bits .j) (omega arith) (omega arith))
 
 add-if4 : tie.Need-add-if4 Inv-loop μ-loop Inv-bits μ-bits
 add-if4 c = omega arith
@@ -51,10 +57,13 @@ loop-less c = omega arith
 
 loop-again : tie.Need-loop-again Inv-loop μ-loop Inv-bits μ-bits
 loop-again c =
-    let bit = mark-bit (c .before .before .before .before .before .before .before .args .a) (c .before .before .before .before .before .before .before .args .work .now) (c .before .before .before .before .before .before .before .pre .1) (c .before .before .before .loop .i) (omega arith) in
-    ⊎-elim (λ way. passed-unmet (c .before .before .before .loop .inv) (omega arith) (sym (c .before .bit .ensures) ∙ way .0 .taken) (way .2 .taken) (way .3) (way .4))
-    (⊎-elim (λ way. passed-met (c .before .before .before .loop .inv) (omega arith) (sym (c .before .bit .ensures) ∙ way .0 .taken) (omega (arith, bit, way .2 .left)) (way .3) (way .4))
-    (λ way. passed-other (c .before .before .before .loop .inv) (omega arith) (sym (c .before .bit .ensures) ∙ way .0 .left) (way .1) (way .2)))
+    let args = c .before .before .before .before .before .before .before .args in
+    let pre = c .before .before .before .before .before .before .before .pre in
+    let loop = c .before .before .before .loop in
+    let bit = mark-bit (args .a) (args .work .now) (pre .1) (loop .i) (omega arith) in
+    ⊎-elim (λ way. passed-unmet (loop .inv) (omega arith) (sym (c .before .bit .ensures) ∙ way .0 .taken) (way .2 .taken) (way .3) (way .4))
+    (⊎-elim (λ way. passed-met (loop .inv) (omega arith) (sym (c .before .bit .ensures) ∙ way .0 .taken) (omega (arith, bit, way .2 .left)) (way .3) (way .4))
+    (λ way. passed-other (loop .inv) (omega arith) (sym (c .before .bit .ensures) ∙ way .0 .left) (way .1) (way .2)))
     (c .if3 .came)
 
 add-j : tie.Need-add-j Inv-loop μ-loop Inv-bits μ-bits
@@ -65,19 +74,26 @@ bits-less c = omega arith
 
 bits-again : tie.Need-bits-again Inv-loop μ-loop Inv-bits μ-bits
 bits-again c =
-    let f : ℕ → Bool = suspectBy (c .before .before .before .before .before .before .args .work .now) (c .before .before .before .before .before .before .args .a .checks) (c .before .before .before .before .before .before .args .a .stride) (c .before .before .before .before .before .before .args .a .marks) in
-    search-next f (c .before .before .before .before .before .before .args .a .gross) (c .before .before .before .before .bits .j) (c .before .before .before .before .bits .inv) (omega arith) (passed-unsuspected (c .before .before .loop .inv) (omega arith) (omega arith))
+    let args = c .before .before .before .before .before .before .args in
+    let bits = c .before .before .before .before .bits in
+    let f : ℕ → Bool = suspectBy (args .work .now) (args .a .checks) (args .a .stride) (args .a .marks) in
+    search-next f (args .a .gross) (bits .j) (bits .inv) (omega arith) (passed-unsuspected (c .before .before .loop .inv) (omega arith) (omega arith))
 
 returns : tie.Need-returns Inv-loop μ-loop Inv-bits μ-bits
 returns c =
-    let f : ℕ → Bool = suspectBy (c .before .before .before .args .work .now) (c .before .before .before .args .a .checks) (c .before .before .before .args .a .stride) (c .before .before .before .args .a .marks) in
-    sym (search-none f (c .before .before .before .args .a .gross) (c .before .bits .j) (c .before .bits .inv) (omega arith)) ∙ suspect-by (c .before .before .before .args .a) (c .before .before .before .args .work .now) (c .before .before .before .pre .1) (c .before .before .before .pre .0)
+    let args = c .before .before .before .args in
+    let pre = c .before .before .before .pre in
+    let f : ℕ → Bool = suspectBy (args .work .now) (args .a .checks) (args .a .stride) (args .a .marks) in
+    sym (search-none f (args .a .gross) (c .before .bits .j) (c .before .bits .inv) (omega arith)) ∙ suspect-by (args .a) (args .work .now) (pre .1) (pre .0)
 
 returns-2 : tie.Need-returns-2 Inv-loop μ-loop Inv-bits μ-bits
 returns-2 c =
-    let f : ℕ → Bool = suspectBy (c .before .before .before .before .before .before .args .work .now) (c .before .before .before .before .before .before .args .a .checks) (c .before .before .before .before .before .before .args .a .stride) (c .before .before .before .before .before .before .args .a .marks) in
-    sym (search-found f (c .before .before .before .before .before .before .args .a .gross) (c .before .before .before .before .bits .j) (c .before .before .before .before .bits .inv) (omega arith) (passed-suspect (c .before .before .loop .inv) (omega arith) (omega arith)))
-    ∙ suspect-by (c .before .before .before .before .before .before .args .a) (c .before .before .before .before .before .before .args .work .now) (c .before .before .before .before .before .before .pre .1) (c .before .before .before .before .before .before .pre .0)
+    let args = c .before .before .before .before .before .before .args in
+    let pre = c .before .before .before .before .before .before .pre in
+    let bits = c .before .before .before .before .bits in
+    let f : ℕ → Bool = suspectBy (args .work .now) (args .a .checks) (args .a .stride) (args .a .marks) in
+    sym (search-found f (args .a .gross) (bits .j) (bits .inv) (omega arith) (passed-suspect (c .before .before .loop .inv) (omega arith) (omega arith)))
+    ∙ suspect-by (args .a) (args .work .now) (pre .1) (pre .0)
 
 pub find-suspect-spec : {M : Type 1} → statement M
 find-suspect-spec =

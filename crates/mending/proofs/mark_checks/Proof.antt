@@ -13,12 +13,16 @@ abbrev μ-loop : tie.MeasureT-loop
 μ-loop work₀ k n stride marks word i₀ work i = k - i
 
 loop-holds : tie.Need-loop-holds Inv-loop μ-loop
-loop-holds c = marked-start (c .before .args .a .checks) (c .before .args .a .gross) (c .before .args .a .stride) (c .before .args .a .marks) (c .before .args .a .word) (c .before .args .work .now)
+loop-holds c =
+    let args = c .before .args in
+    marked-start (args .a .checks) (args .a .gross) (args .a .stride) (args .a .marks) (args .a .word) (args .work .now)
 
 parity-requires : tie.Need-parity-requires Inv-loop μ-loop
 parity-requires c κs =
-    let long = c .before .before .loop .inv .changed .long in
-    (c .before .before .before .before .pre .wide, omega (arith, long, row-inside (c .before .before .before .before .pre) (c .before .before .loop .i) (omega arith)), omega (arith, long))
+    let pre = c .before .before .before .before .pre in
+    let loop = c .before .before .loop in
+    let long = loop .inv .changed .long in
+    (pre .wide, omega (arith, long, row-inside (pre) (loop .i) (omega arith)), omega (arith, long))
 
 add-work : tie.Need-add-work Inv-loop μ-loop
 add-work c = omega (arith, c .before .before .before .before .before .pre)

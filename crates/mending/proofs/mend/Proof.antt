@@ -16,10 +16,16 @@ mark-checks-requires : tie.Need-mark-checks-requires Inv-loop μ-loop
 mark-checks-requires c κs = c .before .before .pre .0
 
 count-unmet-requires : tie.Need-count-unmet-requires Inv-loop μ-loop
-count-unmet-requires c κs = (laid-kept (c .before .before .before .mark-checks .ensures .changed) (c .before .before .before .before .before .before .pre .0), c .before .before .before .mark-checks .ensures .marked)
+count-unmet-requires c κs =
+    let pre = c .before .before .before .before .before .before .pre in
+    let mark-checks = c .before .before .before .mark-checks in
+    (laid-kept (mark-checks .ensures .changed) (pre .0), mark-checks .ensures .marked)
 
 loop-holds : tie.Need-loop-holds Inv-loop μ-loop
-loop-holds c = mended-start (c .before .before .before .before .before .before .before .pre .0) (c .before .before .before .before .before .before .before .pre .1) (c .before .before .before .before .mark-checks .ensures) (c .count-unmet .ensures)
+loop-holds c =
+    let pre = c .before .before .before .before .before .before .before .pre in
+    let mark-checks = c .before .before .before .before .mark-checks in
+    mended-start (pre .0) (pre .1) (mark-checks .ensures) (c .count-unmet .ensures)
 
 find-suspect-requires : tie.Need-find-suspect-requires Inv-loop μ-loop
 find-suspect-requires c κs = (c .before .before .loop .inv .laid, c .before .before .loop .inv .marked)
@@ -30,24 +36,35 @@ step-requires c κs =
     (m .laid, m .run .bits, m .marked, omega (arith, suspect-most m (c .before .before .find-suspect .ensures)), repairs-few m (omega arith))
 
 count-unmet-requires-2 : tie.Need-count-unmet-requires-2 Inv-loop μ-loop
-count-unmet-requires-2 c κs = (laid-kept (c .before .before .before .step .ensures .1 .changed) (c .before .before .before .before .before .before .before .before .before .loop .inv .laid), c .before .before .before .step .ensures .1 .marked)
+count-unmet-requires-2 c κs =
+    let loop = c .before .before .before .before .before .before .before .before .before .loop in
+    let step = c .before .before .before .step in
+    (laid-kept (step .ensures .1 .changed) (loop .inv .laid), step .ensures .1 .marked)
 
 loop-less : tie.Need-loop-less Inv-loop μ-loop
 loop-less c =
-    let inside = suspect-most (c .before .before .before .before .before .before .before .before .before .before .loop .inv) (c .before .before .before .before .before .before .before .find-suspect .ensures) in
-    mended-next (c .before .before .before .before .before .before .before .before .before .before .loop .inv) (omega arith) (omega arith) (c .before .before .before .before .before .before .before .find-suspect .ensures) (c .before .before .before .before .step .ensures .1) (c .count-unmet2 .ensures) (c .before .before .before .before .step .ensures .0) .1
+    let loop = c .before .before .before .before .before .before .before .before .before .before .loop in
+    let find-suspect = c .before .before .before .before .before .before .before .find-suspect in
+    let step = c .before .before .before .before .step in
+    let inside = suspect-most (loop .inv) (find-suspect .ensures) in
+    mended-next (loop .inv) (omega arith) (omega arith) (find-suspect .ensures) (step .ensures .1) (c .count-unmet2 .ensures) (step .ensures .0) .1
 
 loop-again : tie.Need-loop-again Inv-loop μ-loop
 loop-again c =
-    let inside = suspect-most (c .before .before .before .before .before .before .before .before .before .before .loop .inv) (c .before .before .before .before .before .before .before .find-suspect .ensures) in
-    mended-next (c .before .before .before .before .before .before .before .before .before .before .loop .inv) (omega arith) (omega arith) (c .before .before .before .before .before .before .before .find-suspect .ensures) (c .before .before .before .before .step .ensures .1) (c .count-unmet2 .ensures) (c .before .before .before .before .step .ensures .0) .0
+    let loop = c .before .before .before .before .before .before .before .before .before .before .loop in
+    let find-suspect = c .before .before .before .before .before .before .before .find-suspect in
+    let step = c .before .before .before .before .step in
+    let inside = suspect-most (loop .inv) (find-suspect .ensures) in
+    mended-next (loop .inv) (omega arith) (omega arith) (find-suspect .ensures) (step .ensures .1) (c .count-unmet2 .ensures) (step .ensures .0) .0
 
 same-length : tie.Need-same-length Inv-loop μ-loop
 same-length c = c .before .loop .inv .changed .long ∙ c .before .before .before .before .before .before .mark-checks .ensures .changed .long
 
 returns : tie.Need-returns Inv-loop μ-loop
 returns c =
-    mended-all (c .before .loop .inv) (c .before .before .before .before .before .before .before .before .before .pre .0) (c .before .before .before .before .before .before .mark-checks .ensures) (c .before .before .count-unmet .ensures)
+    let pre = c .before .before .before .before .before .before .before .before .before .pre in
+    let mark-checks = c .before .before .before .before .before .before .mark-checks in
+    mended-all (c .before .loop .inv) (pre .0) (mark-checks .ensures) (c .before .before .count-unmet .ensures)
     (⊎-elim (λ way. inl (omega arith)) (λ way. inr (omega (arith, way .2 .ensures, way .3 .taken))) (c .loop-test .came))
 
 pub mend-spec : {M : Type 1} → statement M

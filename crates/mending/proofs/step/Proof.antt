@@ -16,7 +16,11 @@ slice-read-work : tie.Need-slice-read-work
 slice-read-work c = search needs
 
 sub-work : tie.Need-sub-work
-sub-work c = omega (arith, bit-kept (c .before .before .before .before .before .before .before .pre .0) (c .before .before .before .before .turn-marks .ensures) (c .before .before .before .before .before .before .before .args .j) (c .before .before .before .before .before .before .before .pre .3), c .before .before .before .before .before .before .before .pre .1 (c .before .before .before .before .before .before .before .args .j))
+sub-work c =
+    let pre = c .before .before .before .before .before .before .before .pre in
+    let args = c .before .before .before .before .before .before .before .args in
+    let turn-marks = c .before .before .before .before .turn-marks in
+    omega (arith, bit-kept (pre .0) (turn-marks .ensures) (args .j) (pre .3), pre .1 (args .j))
 
 slice-write-work : tie.Need-slice-write-work
 slice-write-work c = search needs
@@ -28,7 +32,10 @@ same-length : tie.Need-same-length
 same-length c = search needs
 
 returns : tie.Need-returns
-returns c = (refl, bit-turned (c .before .before .before .before .before .before .before .pre .0) (c .before .before .before .before .before .before .before .pre .1) (c .before .before .before .before .before .before .before .pre .2) (c .before .before .before .before .before .before .before .pre .3) (c .before .before .before .before .turn-marks .ensures))
+returns c =
+    let pre = c .before .before .before .before .before .before .before .pre in
+    let turn-marks = c .before .before .before .before .turn-marks in
+    (refl, bit-turned (pre .0) (pre .1) (pre .2) (pre .3) (turn-marks .ensures))
 
 pub step-spec : {M : Type 1} → statement M
 step-spec =

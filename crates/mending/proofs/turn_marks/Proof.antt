@@ -18,22 +18,36 @@ loop-holds : tie.Need-loop-holds Inv-loop μ-loop
 loop-holds c = turned-start (c .before .args .j) (c .before .args .a .checks) (c .before .args .a .stride) (c .before .args .a .marks) (c .before .args .work .now)
 
 bit-requires : tie.Need-bit-requires Inv-loop μ-loop
-bit-requires c κs = omega (arith, c .before .before .loop .inv .changed .long, bit-inside (c .before .before .before .before .pre .0) (c .before .before .loop .i) (c .before .before .before .before .args .j) (omega arith) (c .before .before .before .before .pre .2))
+bit-requires c κs =
+    let pre = c .before .before .before .before .pre in
+    let args = c .before .before .before .before .args in
+    let loop = c .before .before .loop in
+    omega (arith, loop .inv .changed .long, bit-inside (pre .0) (loop .i) (args .j) (omega arith) (pre .2))
 
 add-work : tie.Need-add-work Inv-loop μ-loop
 add-work c = omega (arith, c .before .before .before .before .before .before .pre .0)
 
 slice-read-work : tie.Need-slice-read-work Inv-loop μ-loop
-slice-read-work c = omega (arith, c .before .before .before .before .before .loop .inv .changed .long, c .before .before .before .before .before .before .before .pre .0)
+slice-read-work c =
+    let pre = c .before .before .before .before .before .before .before .pre in
+    let loop = c .before .before .before .before .before .loop in
+    omega (arith, loop .inv .changed .long, pre .0)
 
 sub-work : tie.Need-sub-work Inv-loop μ-loop
-sub-work c = omega (arith, c .before .before .before .before .before .loop .inv .rest (c .before .before .before .before .before .loop .i) (omega arith), mark-bit (c .before .before .before .before .before .before .before .args .a) (c .before .before .before .before .before .before .before .args .work .now) (c .before .before .before .before .before .before .before .pre .1) (c .before .before .before .before .before .loop .i) (omega arith))
+sub-work c =
+    let args = c .before .before .before .before .before .before .before .args in
+    let pre = c .before .before .before .before .before .before .before .pre in
+    let loop = c .before .before .before .before .before .loop in
+    omega (arith, loop .inv .rest (loop .i) (omega arith), mark-bit (args .a) (args .work .now) (pre .1) (loop .i) (omega arith))
 
 add-work-2 : tie.Need-add-work-2 Inv-loop μ-loop
 add-work-2 c = omega (arith, c .before .before .before .before .before .before .before .pre .0)
 
 slice-write-work : tie.Need-slice-write-work Inv-loop μ-loop
-slice-write-work c = omega (arith, c .before .before .before .before .before .loop .inv .changed .long, c .before .before .before .before .before .before .before .pre .0)
+slice-write-work c =
+    let pre = c .before .before .before .before .before .before .before .pre in
+    let loop = c .before .before .before .before .before .loop in
+    omega (arith, loop .inv .changed .long, pre .0)
 
 add-i : tie.Need-add-i Inv-loop μ-loop
 add-i c = omega arith
@@ -43,10 +57,13 @@ loop-less c = omega arith
 
 loop-again : tie.Need-loop-again Inv-loop μ-loop
 loop-again c =
-    let same = bits-kept (c .before .before .before .before .before .before .pre .0) (c .before .before .before .before .loop .inv .changed) (c .before .before .before .before .loop .i) (omega arith) (c .before .before .before .before .before .before .args .j) (c .before .before .before .before .before .before .pre .2) in
+    let pre = c .before .before .before .before .before .before .pre in
+    let args = c .before .before .before .before .before .before .args in
+    let loop = c .before .before .before .before .loop in
+    let same = bits-kept (pre .0) (loop .inv .changed) (loop .i) (omega arith) (args .j) (pre .2) in
     ⊎-elim
-    (λ way. turned-in (c .before .before .before .before .loop .inv) (omega arith) (omega (arith, c .before .before .before .before .before .before .pre .0)) (sym same ∙ sym (c .before .bit .ensures) ∙ way .0 .taken) (way .2))
-    (λ way. turned-out (c .before .before .before .before .loop .inv) (omega arith) (sym same ∙ sym (c .before .bit .ensures) ∙ way .0 .left) (way .1))
+    (λ way. turned-in (loop .inv) (omega arith) (omega (arith, pre .0)) (sym same ∙ sym (c .before .bit .ensures) ∙ way .0 .taken) (way .2))
+    (λ way. turned-out (loop .inv) (omega arith) (sym same ∙ sym (c .before .bit .ensures) ∙ way .0 .left) (way .1))
     (c .if1 .came)
 
 same-length : tie.Need-same-length Inv-loop μ-loop
