@@ -24,32 +24,38 @@ build-requires c κs = search needs
 
 eliminate-requires : tie.Need-eliminate-requires
 eliminate-requires c κs =
-    let s = (c .before .before .before .before .before .before .before) in
-    let built : List ℕ = c .before .before .before .build .last .0 in
-    subst⁻¹ (λ (a : Areas). Laid a (length built)) (c .before .before .before .before .before .areas .ensures) (laid-as (areas-laid (s .pre .0) (s .pre .1)) (c .before .before .before .build .ensures .changed .long))
+    let s = c .before .before .before .before .before .before .before in
+    let same = c .before .before .before .before .before .areas .ensures in
+    let b = c .before .before .before .build in
+    let built : List ℕ = b .last .0 in
+    subst⁻¹ (λ (a : Areas). Laid a (length built)) same (laid-as (areas-laid (s .pre .0) (s .pre .1)) (b .ensures .changed .long))
 
 fill-word-requires : tie.Need-fill-word-requires
 fill-word-requires c κs =
-    let s = (c .before .before .before .before .before .before .before .before .before .before .before) in
-    let built : List ℕ = c .before .before .before .before .before .before .before .build .last .0 in
+    let s = c .before .before .before .before .before .before .before .before .before .before .before in
+    let same = c .before .before .before .before .before .before .before .before .before .areas .ensures in
+    let b = c .before .before .before .before .before .before .before .build in
+    let built : List ℕ = b .last .0 in
     let e = c .before .before .before .eliminate in
     subst⁻¹ (λ (a : Areas). Laid a (length (e .last .0)) × HoldsElimination a (e .last .0) × AllBits (part (e .last .0) (a .message) (a .net)))
-    (c .before .before .before .before .before .before .before .before .before .areas .ensures)
-    (fill-fits (s .args .s) (areas-laid (s .pre .0) (s .pre .1)) (c .before .before .before .before .before .before .before .build .ensures)
-    (subst (λ (a : Areas). Eliminated a (denseBits built (a .stride)) built (e .last .0)) (c .before .before .before .before .before .before .before .before .before .areas .ensures) (e .ensures)) (s .pre .2))
+    same
+    (fill-fits (s .args .s) (areas-laid (s .pre .0) (s .pre .1)) (b .ensures)
+    (subst (λ (a : Areas). Eliminated a (denseBits built (a .stride)) built (e .last .0)) same (e .ensures)) (s .pre .2))
 
 same-length : tie.Need-same-length
 same-length c = search needs
 
 returns : tie.Need-returns
 returns c =
-    let s = (c .before .before .before .before .before .before .before .before .before .before .before .before .before .before) in
-    let built : List ℕ = c .before .before .before .before .before .before .before .before .before .before .build .last .0 in
+    let s = c .before .before .before .before .before .before .before .before .before .before .before .before .before .before in
+    let same = c .before .before .before .before .before .before .before .before .before .before .before .before .areas .ensures in
+    let b = c .before .before .before .before .before .before .before .before .before .before .build in
+    let built : List ℕ = b .last .0 in
     let e = c .before .before .before .before .before .before .eliminate in
     let f = c .before .before .fill-word in
-    encoded (s .args .s) (areas-laid (s .pre .0) (s .pre .1)) (c .before .before .before .before .before .before .before .before .before .before .build .ensures)
-    (subst (λ (a : Areas). Eliminated a (denseBits built (a .stride)) built (e .last .0)) (c .before .before .before .before .before .before .before .before .before .before .before .before .areas .ensures) (e .ensures))
-    (subst (λ (a : Areas). WordFilled a (e .last .0) (f .last .0)) (c .before .before .before .before .before .before .before .before .before .before .before .before .areas .ensures) (f .ensures))
+    encoded (s .args .s) (areas-laid (s .pre .0) (s .pre .1)) (b .ensures)
+    (subst (λ (a : Areas). Eliminated a (denseBits built (a .stride)) built (e .last .0)) same (e .ensures))
+    (subst (λ (a : Areas). WordFilled a (e .last .0) (f .last .0)) same (f .ensures))
 
 pub encode-spec : {M : Type 1} → statement M
 encode-spec =
