@@ -21,11 +21,11 @@ use Rattle.laws.proofs.Generator.{after-add}
 use Rattle.laws.proofs.Matrix.{order-lt}
 use Rattle.laws.proofs.Shuffle.{shuffled-every}
 use Rattle.lent.specs.declared.Areas.{Areas}
-use Rattle.lent.specs.Buffer.{numbersAt, ChangedIn, ChangedInBoth, Cleared, Laid}
-use Rattle.lent.proofs.Buffer.{length-numbers, numbers-same, both-then}
+use Rattle.lent.specs.Buffer.{numbersAt, ChangedIn, ChangedInBoth, Cleared, CountedUp, Laid}
+use Rattle.lent.proofs.Buffer.{length-numbers, numbers-same, both-none, both-then, both-front, both-back}
 use Rattle.dense.specs.Dense.{denseBits}
-use Rattle.dense.proofs.Dense.{row-gap, in-row, rows-same}
-use Rattle.check_matrix.specs.Build.{CountedUp, BlockFits, BlockTurned, Built}
+use Rattle.dense.proofs.Dense.{row-gap, column-inside, rows-same}
+use Rattle.check_matrix.specs.Build.{BlockFits, BlockTurned, Built}
 
 -- ---- places that stay
 
@@ -38,21 +38,10 @@ module _ {a : Areas} {room : ℕ} (l : Laid a room) where
   rows-first : a .checks * a .stride ≤ a .numbers
   rows-first = omega (arith, l .rows-end, l .marks-end, l .word-end)
 
-  changed-rows : {before after : List ℕ} → ChangedIn 0 (a .checks * a .stride) before after → RowsAndNumbers a before after
-  changed-rows c =
-      record { long = c .long; between = λ i h g. c .behind i h; behind = λ i h. c .behind i (omega (arith, rows-first)) }
-
-  changed-numbers : {before after : List ℕ} → ChangedIn (a .numbers) (a .numbers + 2 * a .gross) before after → RowsAndNumbers a before after
-  changed-numbers c = record { long = c .long; between = λ i h g. c .front i g; behind = c .behind }
-
   -- bits of the rows stay where only numbers are changed
   bits-same : {before after : List ℕ} → ChangedIn (a .numbers) (a .numbers + 2 * a .gross) before after
       → (i : ℕ) → i < a .checks → (j : ℕ) → j / 8 < a .stride → denseBits after (a .stride) i j ≡ denseBits before (a .stride) i j
   bits-same {before} {after} c i h j g = rows-same before after (a .stride) (a .checks) (a .numbers) rows-first (c .front) i h j g
-
-  -- the byte of a column lies in its row
-  column-inside : (j : ℕ) → j < a .gross → j / 8 < a .stride
-  column-inside j g = in-row (a .gross) (a .stride) j (l .wide) g
 
   -- the bits of cleared rows
   bits-cleared : {before after : List ℕ} → Cleared 0 (a .checks * a .stride) before after
@@ -111,9 +100,9 @@ pub blocks-start : {a : Areas} {room : ℕ} (t wr : ℕ) {entry cleared counted 
     → Cleared 0 (a .checks * a .stride) entry cleared → CountedUp (a .numbers) (a .gross) cleared counted
     → BlocksBuilt a t wr 0 matrixSeed counted counted
 unfolding stateAfter columnOrder
-blocks-start {a} t wr l c n =
+blocks-start {a} t wr {counted = counted} l c n =
     record {
-      changed = record { long = refl; between = λ i h g. refl; behind = λ i h. refl };
+      changed = both-none (a .checks * a .stride) (a .numbers) (a .numbers + 2 * a .gross) counted;
       states = sym (ap (λ (k : ℕ). stateAfter k matrixSeed) (zero-mul (a .gross)));
       order = n .counted;
       done = λ i h. absurd (omega (arith, zero-mul t));
@@ -194,7 +183,8 @@ module _ {a : Areas} {t wc wr room block state : ℕ} {before work : List ℕ} (
       blocks-next {next} f =
           let more : (block + 1) * t ≡ block * t + t = ap (λ (k : ℕ). k * t) (add-one block) ∙ suc-mul block t in
           record {
-            changed = both-then (b .changed) (both-then (changed-numbers (s .laid) m) (changed-rows (s .laid) (d .changed)));
+            changed =
+                both-front (both-back (b .changed) m (omega arith) (omega arith)) (d .changed) (omega arith) (omega (arith, rows-first (s .laid)));
             states =
                 f
                 ∙ ap (stateAfter (a .gross)) (b .states)
@@ -216,10 +206,16 @@ module _ {a : Areas} {t wc wr room block state : ℕ} {before work : List ℕ} (
   -- the last block is built
   pub blocks-done : {entry cleared : List ℕ} → Cleared 0 (a .checks * a .stride) entry cleared → CountedUp (a .numbers) (a .gross) cleared before
       → block ≡ wc → Built a t wc wr entry work
-  blocks-done c n e =
+  blocks-done {entry} c n e =
       let all : wc * t ≤ block * t = mul-le-mul-right t (omega arith) in
       record {
-        changed = both-then (changed-rows (s .laid) (c .changed)) (both-then (changed-numbers (s .laid) (n .changed)) (b .changed));
+        changed =
+            both-then
+            (both-back
+            (both-front (both-none (a .checks * a .stride) (a .numbers) (a .numbers + 2 * a .gross) entry) (c .changed) (omega arith)
+            (omega (arith, rows-first (s .laid))))
+            (n .changed) (omega arith) (omega arith))
+            (b .changed);
         bits = λ i k j g. b .done i (omega (arith, s .rows, mul-comm t wc)) k j g;
         past = b .past;
         order = b .order ∙ ap (columnOrder matrixSeed (a .gross)) e;

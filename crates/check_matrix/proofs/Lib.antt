@@ -1,3 +1,2 @@
-mod Counting
 mod Turning
 mod Blocks

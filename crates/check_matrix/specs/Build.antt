@@ -6,16 +6,10 @@ use mathlib.Core.Bool.{false, xor}
 use mathlib.Core.List.{List}
 use lib.Dec.{eqb}
 use lib.ListN.{getD}
-use Rattle.symbology.specs.Ranges.{tabulate}
 use Rattle.symbology.specs.Matrix.{matrixSeed, columnOrder, matrixA}
 use Rattle.lent.specs.declared.Areas.{Areas}
 use Rattle.lent.specs.Buffer.{numbersAt, ChangedIn, ChangedInBoth}
 use Rattle.dense.specs.Dense.{denseBits}
-
--- the n numbers from `at` on are 0, 1, .., n - 1
-pub record CountedUp (at n : ℕ) (before after : List ℕ) : Type 0 where
-  pub changed : ChangedIn at (at + 2 * n) before after
-  pub counted : numbersAt after at n ≡ tabulate n (λ j. j)
 
 -- each number of a column order leads to a row of the matrix
 pub record BlockFits (a : Areas) (wr first : ℕ) (work : List ℕ) : Type 0 where

@@ -32,30 +32,21 @@ fn areas() -> Areas
 fn print_first_row(work: &mut [u8])
     requires { ⌜ length (now work) ≡ 65536 ⌝ }
 {
-    check_matrix::build(work, areas(), 116, 3, 9);
+    let a = areas();
+    check_matrix::build(work, a, 116, 3, 9);
     let mut j = 0;
-    while j < 1044 {
-        if dense::bit(work, 131, 0, j) {
+    while j < a.gross {
+        if dense::bit(work, a.stride, 0, j) {
             print_line(j);
         }
         j += 1;
     }
 }
 
-fn count_up(work: &mut [u8])
-    requires { ⌜ length (now work) ≡ 65536 ⌝ }
-{
-    let mut i = 0;
-    while i < 1047 {
-        lent::put_number(work, 2 * i, i);
-        i += 1;
-    }
-}
-
 fn print_interleaving(work: &mut [u8])
     requires { ⌜ length (now work) ≡ 65536 ⌝ }
 {
-    count_up(work);
+    lent::count_up(work, 0, 1047);
     shuffle::shuffle_numbers(work, 0, 1047, 226759);
     let mut i = 0;
     while i < 6 {

@@ -17,7 +17,7 @@ use Rattle.lent.specs.declared.Areas.{Areas}
 use Rattle.lent.specs.Buffer.{ChangedIn, Laid}
 use Rattle.lent.proofs.Buffer.{number-same}
 use Rattle.dense.specs.Dense.{denseBits}
-use Rattle.dense.proofs.Dense.{in-row, rows-same}
+use Rattle.dense.proofs.Dense.{rows-kept}
 use Rattle.elimination.specs.Reduced.{rowOf, EliminatedFrom}
 use Rattle.codeword.specs.Columns.{isMessage, RowsApart}
 
@@ -70,8 +70,7 @@ module _ (a : Areas) (before after : List ℕ) (laid : Laid a (length before)) (
   -- Rows stay.
   pub bits-kept : (i : ℕ) → i < a .checks → (c : ℕ) → c < a .gross → denseBits after (a .stride) i c ≡ denseBits before (a .stride) i c
   bits-kept i h c g =
-      rows-same before after (a .stride) (a .checks) (a .word) (omega (arith, laid .rows-end, laid .marks-end)) (w .front) i h c
-      (in-row (a .gross) (a .stride) c (laid .wide) g)
+      rows-kept laid before after (a .word) (omega (arith, laid .rows-end, laid .marks-end)) (w .front) i h c g
 
   -- The rows of check columns stay apart.
   pub apart-kept : RowsApart a before → RowsApart a after

@@ -18,7 +18,7 @@ use Rattle.laws.proofs.Spare.{enough-columns}
 use Rattle.lent.specs.declared.Areas.{Areas}
 use Rattle.lent.specs.Buffer.{part, ChangedIn, Laid}
 use Rattle.lent.proofs.Buffer.{part-is, part-at, number-same, changed-none, changed-set}
-use Rattle.codeword.specs.Columns.{isMessage, gatheredBits, Gathered, MessageRead}
+use Rattle.codeword.specs.Columns.{isMessage, MessageRead}
 use Rattle.codeword.proofs.Columns.{all-messages}
 
 -- ---- one more bit
@@ -162,27 +162,25 @@ pub gathered-as : {a : Areas} {before after after′ : List ℕ} {j m m′ : ℕ
     → after′ ≡ after → spare′ ≡ spare → m′ ≡ m → GatheredTo a before after′ j m′ spare′
 gathered-as s e f g = rw (e, f, g) s
 
--- all columns are passed
-pub gathered-all : {a : Areas} {before after : List ℕ} {m : ℕ} {spare : Bool} → GatheredTo a before after (a .gross) m spare → Gathered a before after spare
-gathered-all s = record { changed = s .changed; stored = λ i h l. s .stored i h (omega (arith, s .counted)); spare-is = s .spare-is }
-
 -- ---- the message
 
 -- What is gathered are the message columns of the matrix whose elimination the buffer holds, of which there are enough.
-pub message-read : {a : Areas} {before after : List ℕ} {spare : Bool} → Laid a (length before) → Gathered a before after spare → MessageRead a before after spare
+pub message-read : {a : Areas} {before after : List ℕ} {m : ℕ} {spare : Bool} → Laid a (length before)
+    → GatheredTo a before after (a .gross) m spare → MessageRead a before after spare
 unfolding messageBits
 message-read {a} {before} {after} laid g =
+    let bits : List ℕ = gatheredTo a before (a .gross) in
     record {
       changed = g .changed;
       message-is = λ m e.
-          let same : gatheredBits a before ≡ messageBits (a .checks) (a .gross) m (part before (a .word) (a .gross)) =
+          let same : bits ≡ messageBits (a .checks) (a .gross) m (part before (a .word) (a .gross)) =
           ap (map (λ j. getD (part before (a .word) (a .gross)) j 0)) (all-messages a m before e) in
-          let enough : a .net ≤ length (gatheredBits a before) =
+          let enough : a .net ≤ length bits =
           (let long = length-map (messageColumns (a .checks) (a .gross) m) (λ j. getD (part before (a .word) (a .gross)) j 0) in
           omega (arith, ap length same, long, enough-columns (a .checks) (a .gross) m, laid .parts)) in
-          part-is after (a .message) (a .net) (take (a .net) (gatheredBits a before)) (omega (arith, g .changed .long, laid .message-end))
-          (length-take-le (a .net) (gatheredBits a before) enough)
-          (λ i h. g .stored i h (omega arith) ∙ sym (getD-take (a .net) (gatheredBits a before) i 0 h))
+          part-is after (a .message) (a .net) (take (a .net) bits) (omega (arith, g .changed .long, laid .message-end))
+          (length-take-le (a .net) bits enough)
+          (λ i h. g .stored i h (omega (arith, g .counted)) ∙ sym (getD-take (a .net) bits i 0 h))
           ∙ ap (take (a .net)) same;
       spare-is = λ m e.
           g .spare-is ∙ ap (λ (l : List ℕ). anyOne (drop (a .net) (map (λ j. getD (part before (a .word) (a .gross)) j 0) l))) (all-messages a m before e);

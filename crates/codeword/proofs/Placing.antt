@@ -3,32 +3,29 @@
 use Prim.Native.Nat.{ℕ, _+_, _≤_, _<_}
 use mathlib.Core.Path.{_≡_, refl, sym, ap, _∙_}
 use mathlib.Core.Bool.{Bool, true, false, cond}
-use mathlib.Core.List.{List, [], _∷_}
+use mathlib.Core.List.{List}
 use native.Mathlib.Numerals.{add-one}
 use native.Mathlib.Decide.{ℕ-discrete}
 use native.Mathlib.Omega.{arith}
-use lib.ListN.{length, getD, set, length-append}
+use lib.ListN.{length, getD, set}
 use lib.Seq.{getD-set-same, getD-set-other}
-use Rattle.symbology.specs.Ranges.{those}
-use Rattle.laws.proofs.Ranges.{those-in, those-out}
+use Rattle.symbology.specs.Ranges.{tally, those}
+use Rattle.laws.proofs.Counting.{number-suc}
 use Rattle.lent.specs.declared.Areas.{Areas}
 use Rattle.lent.specs.Buffer.{part, ChangedIn, Laid}
 use Rattle.lent.proofs.Buffer.{part-at, part-past, changed-none, changed-set}
-use Rattle.codeword.specs.Columns.{isMessage, Placed}
+use Rattle.codeword.specs.Columns.{isMessage, placedBit, Placed}
 use Rattle.codeword.proofs.Columns.{message-kept}
 
 -- one more number at which the test holds, or none
-pub count-in : (f : ℕ → Bool) (j : ℕ) → f j ≡ true → length (those (j + 1) f) ≡ length (those j f) + 1
+count-in : (f : ℕ → Bool) (j : ℕ) → f j ≡ true → length (those (j + 1) f) ≡ length (those j f) + 1
 count-in f j e =
-    ap (λ (k : ℕ). length (those k f)) (add-one j) ∙ ap length (those-in j f e) ∙ length-append (those j f) (j ∷ [])
+    ap (λ (k : ℕ). length (those k f)) (add-one j) ∙ number-suc f j ∙ ap (λ (t : Bool). length (those j f) + tally t) e
 
-pub count-out : (f : ℕ → Bool) (j : ℕ) → f j ≡ false → length (those (j + 1) f) ≡ length (those j f)
-count-out f j e = ap (λ (k : ℕ). length (those k f)) (add-one j) ∙ ap length (those-out j f e)
-
--- what column j of the word holds
-abbrev pub placedBit : Areas → List ℕ → ℕ → ℕ
-placedBit a before j =
-    cond (isMessage a before j) (getD (part before (a .message) (a .net)) (length (those j (isMessage a before))) 0) 0
+count-out : (f : ℕ → Bool) (j : ℕ) → f j ≡ false → length (those (j + 1) f) ≡ length (those j f)
+count-out f j e =
+    let none : tally (f j) ≡ 0 = ap tally e in
+    ap (λ (k : ℕ). length (those k f)) (add-one j) ∙ omega (arith, number-suc f j)
 
 -- the columns up to j are stored, m of them message columns
 pub record PlacedTo (a : Areas) (before after : List ℕ) (j m : ℕ) : Type 0 where

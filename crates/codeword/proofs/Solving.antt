@@ -17,6 +17,7 @@ use Rattle.symbology.specs.Rule.{bitSum, unmet}
 use Rattle.symbology.specs.Codeword.{isCheckColumn, codeword}
 use Rattle.symbology.proofs.Ranges.{clash}
 use Rattle.laws.proofs.Ranges.{by, those-ext, tally-le}
+use Rattle.laws.proofs.Bits.{bit-tally}
 use Rattle.laws.proofs.Gf2.{dot, dot-ext, bitAt, bitSum-append, unmet-dot}
 use Rattle.laws.proofs.Codeword.{codeword-filled}
 use Rattle.lent.specs.declared.Areas.{Areas}
@@ -24,7 +25,7 @@ use Rattle.lent.specs.Buffer.{part, ChangedIn, Laid}
 use Rattle.lent.proofs.Buffer.{length-part, part-at, part-past, changed-none, changed-set, changed-then}
 use Rattle.dense.specs.Dense.{denseBits}
 use Rattle.elimination.specs.Reduced.{rowOf, isUsed, EliminatedFrom}
-use Rattle.codeword.specs.Columns.{isMessage, RowsApart, Placed, Solved, WordFilled}
+use Rattle.codeword.specs.Columns.{isMessage, solvedBit, RowsApart, Placed, Solved, WordFilled}
 use Rattle.codeword.proofs.Columns.{message-is, messages-are, row-kept, message-kept, bits-kept}
 
 -- ---- parities of words that agree in the ones of a row
@@ -51,11 +52,18 @@ parity-agree n f g v w rows same =
 
 -- ---- the columns passed
 
--- what column c of the word holds in the end
-abbrev solvedBit : Areas → List ℕ → ℕ → ℕ
-solvedBit a before c =
-    cond (isMessage a before c) (getD before (a .word + c) 0)
-    (unmet (checkOf (a .gross) (denseBits before (a .stride)) (rowOf a before c)) (part before (a .word) (a .gross)))
+-- a message column holds what it held
+solved-in : (a : Areas) (work : List ℕ) (c : ℕ) → isMessage a work c ≡ true → solvedBit a work c ≡ getD work (a .word + c) 0
+solved-in a work c t =
+    ap (λ (b : Bool). cond b (getD work (a .word + c) 0)
+    (unmet (checkOf (a .gross) (denseBits work (a .stride)) (rowOf a work c)) (part work (a .word) (a .gross)))) t
+
+-- a check column holds the parity
+solved-out : (a : Areas) (work : List ℕ) (c : ℕ) → isMessage a work c ≡ false
+    → solvedBit a work c ≡ unmet (checkOf (a .gross) (denseBits work (a .stride)) (rowOf a work c)) (part work (a .word) (a .gross))
+solved-out a work c t =
+    ap (λ (b : Bool). cond b (getD work (a .word + c) 0)
+    (unmet (checkOf (a .gross) (denseBits work (a .stride)) (rowOf a work c)) (part work (a .word) (a .gross)))) t
 
 -- the check columns up to c are solved
 pub record SolvedTo (a : Areas) (before after : List ℕ) (c : ℕ) : Type 0 where
@@ -81,9 +89,7 @@ module _ {a : Areas} {before after : List ℕ} {c : ℕ} (laid : Laid a (length 
             elim (ℕ-discrete d c) [
               | yes same ↦
                   rw same
-                  (s .rest c (omega arith)
-                  ∙ sym (ap (λ (b : Bool). cond b (getD before (a .word + c) 0)
-                  (unmet (checkOf (a .gross) (denseBits before (a .stride)) (rowOf a before c)) (part before (a .word) (a .gross)))) t′))
+                  (s .rest c (omega arith) ∙ sym (solved-in a before c t′))
               | no other ↦ s .passed d (omega arith)
             ];
         rest = λ d l. s .rest d (omega arith);
@@ -108,8 +114,7 @@ module _ {a : Areas} {before after : List ℕ} {c : ℕ} (laid : Laid a (length 
             | yes early ↦
                 s .passed j early
                 ∙ by (isMessage a before j)
-                (λ t. ap (λ (b : Bool). cond b (getD before (a .word + j) 0)
-                (unmet (checkOf (a .gross) (denseBits before (a .stride)) (rowOf a before j)) (part before (a .word) (a .gross)))) t)
+                (λ t. solved-in a before j t)
                 (λ t. clash o (apart c j h g l (leb-false (a .checks) (rowOf a before j) t) (λ e. omega arith)))
           ]
 
@@ -124,9 +129,7 @@ module _ {a : Areas} {before after : List ℕ} {c : ℕ} (laid : Laid a (length 
       e
       ∙ ap (λ (i : ℕ). unmet (checkOf (a .gross) (denseBits after (a .stride)) i) (part after (a .word) (a .gross))) kept
       ∙ parity-is apart l′
-      ∙ sym (ap (λ (b : Bool). cond b (getD before (a .word + c) 0)
-      (unmet (checkOf (a .gross) (denseBits before (a .stride)) (rowOf a before c)) (part before (a .word) (a .gross))))
-      (lt-leb (a .checks) (rowOf a before c) l′)) in
+      ∙ sym (solved-out a before c (lt-leb (a .checks) (rowOf a before c) l′)) in
       record {
         changed = changed-set (s .changed) (a .word + c) v (omega arith) (omega arith);
         passed = λ d g.
@@ -147,15 +150,8 @@ solved-all s = record { changed = s .changed; solved = s .passed }
 
 -- ---- the codeword
 
-tally-bit : (t : Bool) → eqb (tally t % 2) 1 ≡ t
-tally-bit true = refl
-tally-bit false = refl
-
 module _ {a : Areas} {before mid after : List ℕ} (laid : Laid a (length before)) (are-bits : AllBits (part before (a .message) (a .net)))
     (p : Placed a before mid) (s : Solved a mid after) (m : BitMatrix) (e : EliminatedFrom a m 0 before) where
-  n : ℕ
-  n = a .gross
-
   chk : ℕ → Bool
   chk = isCheckColumn (a .checks) (a .gross) m
 
@@ -193,9 +189,7 @@ module _ {a : Areas} {before mid after : List ℕ} (laid : Laid a (length before
 
   message-bit : (c : ℕ) → c < a .gross → chk c ≡ false → getD w c 0 ≡ getD mid (a .word + c) 0
   message-bit c h z =
-      w-at c h
-      ∙ ap (λ (b : Bool). cond b (getD mid (a .word + c) 0)
-      (unmet (checkOf (a .gross) (denseBits mid (a .stride)) (rowOf a mid c)) (part mid (a .word) (a .gross)))) (mid-kept c h ∙ ap not z)
+      w-at c h ∙ solved-in a mid c (mid-kept c h ∙ ap not z)
 
   -- the bits of the placed word are those of the message columns of the word
   placed-bit : (c : ℕ) → c < a .gross → bitAt (part mid (a .word) (a .gross)) c ≡ (not (chk c) && bitAt w c)
@@ -210,13 +204,12 @@ module _ {a : Areas} {before mid after : List ℕ} (laid : Laid a (length before
   row-below c h z = e .reduced .row-lt c (omega arith, h, z)
 
   check-value : (c : ℕ) → c < a .gross → chk c ≡ true
-      → getD w c 0 ≡ tally (dot n (denseBits before (a .stride) (rowOf a before c)) (λ j. not (chk j) && bitAt w j))
-  unfolding checkOf n
+      → getD w c 0 ≡ tally (dot (a .gross) (denseBits before (a .stride) (rowOf a before c)) (λ j. not (chk j) && bitAt w j))
+  unfolding checkOf
   check-value c h z =
       let same : rowOf a mid c ≡ rowOf a before c = row-kept a before mid laid (p .changed) c in
       w-at c h
-      ∙ ap (λ (b : Bool). cond b (getD mid (a .word + c) 0)
-      (unmet (checkOf (a .gross) (denseBits mid (a .stride)) (rowOf a mid c)) (part mid (a .word) (a .gross)))) (mid-kept c h ∙ ap not z)
+      ∙ solved-out a mid c (mid-kept c h ∙ ap not z)
       ∙ ap (λ (i : ℕ). unmet (those (a .gross) (denseBits mid (a .stride) i)) (part mid (a .word) (a .gross))) same
       ∙ unmet-dot (a .gross) (denseBits mid (a .stride) (rowOf a before c)) (part mid (a .word) (a .gross))
       ∙ ap tally (dot-ext (a .gross) (denseBits mid (a .stride) (rowOf a before c)) (denseBits before (a .stride) (rowOf a before c))
@@ -226,7 +219,7 @@ module _ {a : Areas} {before mid after : List ℕ} (laid : Laid a (length before
   bits-inside : (c : ℕ) → c < a .gross → getD w c 0 ≤ 1
   bits-inside c h =
       by (chk c)
-      (λ z. omega (arith, check-value c h z, tally-le (dot n (denseBits before (a .stride) (rowOf a before c)) (λ j. not (chk j) && bitAt w j))))
+      (λ z. omega (arith, check-value c h z, tally-le (dot (a .gross) (denseBits before (a .stride) (rowOf a before c)) (λ j. not (chk j) && bitAt w j))))
       (λ z. omega (arith, message-bit c h z, placed-message c h z, are-bits (length (those c (λ j. not (chk j))))))
 
   w-bits : AllBits w
@@ -238,14 +231,14 @@ module _ {a : Areas} {before mid after : List ℕ} (laid : Laid a (length before
       ]
 
   -- The word with its message columns stored and its check columns solved is the codeword.
-  pub solved-codeword : part after (a .word) (a .gross) ≡ codeword (a .checks) (a .gross) m (part before (a .message) (a .net))
-  unfolding w chk n
+  solved-codeword : part after (a .word) (a .gross) ≡ codeword (a .checks) (a .gross) m (part before (a .message) (a .net))
+  unfolding w chk
   solved-codeword =
       sym (codeword-filled (a .checks) (a .gross) m (part before (a .message) (a .net))
       (denseBits before (a .stride)) (isUsed a before) (rowOf a before) (e .reduced) w (length-part after (a .word) (a .gross) room-after) w-bits
       (λ c h z. message-bit c h z ∙ placed-message c h z)
       (λ c h z. ap (λ (x : ℕ). eqb (x % 2) 1) (check-value c h z)
-      ∙ tally-bit (dot n (denseBits before (a .stride) (rowOf a before c)) (λ j. not (chk j) && bitAt w j))))
+      ∙ bit-tally (dot (a .gross) (denseBits before (a .stride) (rowOf a before c)) (λ j. not (chk j) && bitAt w j))))
 
 -- The word filled in two steps is the codeword of the net bits.
 pub word-filled : {a : Areas} {before mid after : List ℕ} → Laid a (length before) → AllBits (part before (a .message) (a .net))

@@ -3,7 +3,7 @@
 use Prim.Native.Nat.{ℕ, _+_, _<_}
 use mathlib.Core.Path.{_≡_}
 use mathlib.Core.Bool.{Bool, false, cond}
-use mathlib.Core.List.{List, map}
+use mathlib.Core.List.{List}
 use lib.Dec.{leb}
 use lib.ListN.{length, getD, take, drop}
 use Rattle.symbology.specs.Bits.{anyOne}
@@ -31,22 +31,24 @@ RowsApart a work =
     → (c ≡ d → ⊥)
     → denseBits work (a .stride) (rowOf a work c) d ≡ false
 
--- the net bits stand in the message columns, ascending, and 0 in the other columns
+-- what a column holds where the net bits are stored: those in the message columns, ascending, 0 in the spare ones and in the check columns
+abbrev pub placedBit : Areas → List ℕ → ℕ → ℕ
+placedBit a work j =
+    cond (isMessage a work j) (getD (part work (a .message) (a .net)) (length (those j (isMessage a work))) 0) 0
+
 pub record Placed (a : Areas) (before after : List ℕ) : Type 0 where
   pub changed : ChangedIn (a .word) (a .word + a .gross) before after
-  pub placed : (j : ℕ)
-      → j < a .gross
-      → getD after (a .word + j) 0
-      ≡ cond (isMessage a before j) (getD (part before (a .message) (a .net)) (length (those j (isMessage a before))) 0) 0
+  pub placed : (j : ℕ) → j < a .gross → getD after (a .word + j) 0 ≡ placedBit a before j
 
--- each check column holds the parity of its row over the word before
+-- what a column holds where the check columns are solved: each the parity of its row over the word
+abbrev pub solvedBit : Areas → List ℕ → ℕ → ℕ
+solvedBit a work c =
+    cond (isMessage a work c) (getD work (a .word + c) 0)
+    (unmet (checkOf (a .gross) (denseBits work (a .stride)) (rowOf a work c)) (part work (a .word) (a .gross)))
+
 pub record Solved (a : Areas) (before after : List ℕ) : Type 0 where
   pub changed : ChangedIn (a .word) (a .word + a .gross) before after
-  pub solved : (c : ℕ)
-      → c < a .gross
-      → getD after (a .word + c) 0
-      ≡ cond (isMessage a before c) (getD before (a .word + c) 0)
-      (unmet (checkOf (a .gross) (denseBits before (a .stride)) (rowOf a before c)) (part before (a .word) (a .gross)))
+  pub solved : (c : ℕ) → c < a .gross → getD after (a .word + c) 0 ≡ solvedBit a before c
 
 -- the word is the codeword of the net bits, for the matrix whose elimination the buffer holds
 pub record WordFilled (a : Areas) (before after : List ℕ) : Type 0 where
@@ -55,17 +57,8 @@ pub record WordFilled (a : Areas) (before after : List ℕ) : Type 0 where
       → EliminatedFrom a m 0 before
       → part after (a .word) (a .gross) ≡ codeword (a .checks) (a .gross) m (part before (a .message) (a .net))
 
--- the bits of the word in the message columns
-abbrev pub gatheredBits : Areas → List ℕ → List ℕ
-gatheredBits a work = map (λ j. getD (part work (a .word) (a .gross)) j 0) (those (a .gross) (isMessage a work))
-
--- the first of these bits stand as the net bits, and `spare` tells whether another one is 1
-pub record Gathered (a : Areas) (before after : List ℕ) (spare : Bool) : Type 0 where
-  pub changed : ChangedIn (a .message) (a .message + a .net) before after
-  pub stored : (i : ℕ) → i < a .net → i < length (gatheredBits a before) → getD after (a .message + i) 0 ≡ getD (gatheredBits a before) i 0
-  pub spare-is : spare ≡ anyOne (drop (a .net) (gatheredBits a before))
-
--- the same in terms of the matrix whose elimination the buffer holds
+-- The first of the word's message bits stand as the net bits, and `spare` tells whether another one is 1, for the matrix whose
+-- elimination the buffer holds.
 pub record MessageRead (a : Areas) (before after : List ℕ) (spare : Bool) : Type 0 where
   pub changed : ChangedIn (a .message) (a .message + a .net) before after
   pub message-is : (m : BitMatrix)

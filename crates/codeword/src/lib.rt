@@ -4,7 +4,7 @@ use lent::Areas;
 ghost use lib.ListN.{length};
 ghost use Rattle.lent.specs.Buffer.{part, Laid};
 ghost use Rattle.elimination.specs.Reduced.{HoldsElimination};
-ghost use Rattle.codeword.specs.Columns.{RowsApart, Placed, Solved, Gathered, WordFilled, MessageRead};
+ghost use Rattle.codeword.specs.Columns.{RowsApart, Placed, Solved, WordFilled, MessageRead};
 ghost use Rattle.symbology.specs.Bits.{AllBits};
 
 // Stores the net bits in the message columns, ascending, and 0 in the spare ones and the check columns.
@@ -32,8 +32,8 @@ fn place_message(work: &mut [u8], a: Areas)
     }
 }
 
-// Stores in each check column the parity of its row over the word. The row has no other check column, and
-// the column's own bit is 0 before.
+// Stores in each check column the parity of its row over the word. The row has a 1 in no other check
+// column, so that the order does not matter; `place_message` has left the column's own bit 0.
 fn solve_checks(work: &mut [u8], a: Areas)
     requires { ⌜ Laid a (length (now work)) × RowsApart a (now work) ⌝ }
     ensures { λ _. ⌜ Solved a (now (work .entry)) (now (work .exit)) ⌝ }
@@ -64,9 +64,9 @@ pub fn fill_word(work: &mut [u8], a: Areas)
 
 // Stores the bits of the word in the first message columns as the net bits, and answers whether one in the
 // spare message columns is 1.
-fn gather(work: &mut [u8], a: Areas) -> bool
-    requires { ⌜ Laid a (length (now work)) ⌝ }
-    ensures { λ r. ⌜ Gathered a (now (work .entry)) (now (work .exit)) r ⌝ }
+pub fn read_message(work: &mut [u8], a: Areas) -> bool
+    requires { ⌜ Laid a (length (now work)) × HoldsElimination a (now work) ⌝ }
+    ensures { λ r. ⌜ MessageRead a (now (work .entry)) (now (work .exit)) r ⌝ }
 {
     let k = a.checks;
     let net = a.net;
@@ -89,12 +89,4 @@ fn gather(work: &mut [u8], a: Areas) -> bool
         j += 1;
     }
     spare
-}
-
-// Reads the message columns of the word.
-pub fn read_message(work: &mut [u8], a: Areas) -> bool
-    requires { ⌜ Laid a (length (now work)) × HoldsElimination a (now work) ⌝ }
-    ensures { λ r. ⌜ MessageRead a (now (work .entry)) (now (work .exit)) r ⌝ }
-{
-    gather(work, a)
 }

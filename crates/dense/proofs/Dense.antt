@@ -9,7 +9,7 @@ use native.Mathlib.Numerals.{add-one}
 use native.Mathlib.Decide.{ℕ-discrete, decLt}
 use native.Mathlib.Omega.{arith}
 use lib.Arith.{digits-div, digits-mod}
-use lib.Bits.{bitXor, differ, xor-step, xor-shr}
+use lib.Bits.{bitXor, differ, xor-shr}
 use lib.Dec.{eqb}
 use lib.ListN.{length, getD, set}
 use lib.Seq.{getD-set-same, getD-set-other}
@@ -18,8 +18,10 @@ use Rattle.symbology.specs.Ranges.{tally, allBelow, those}
 use Rattle.symbology.specs.Rule.{bitSum, unmet}
 use Rattle.symbology.proofs.Ranges.{below-true}
 use Rattle.laws.proofs.Ranges.{those-in, those-out}
+use Rattle.laws.proofs.Masks.{xor-digit}
 use Rattle.laws.proofs.Gf2.{bitSum-append, xor-none}
-use Rattle.lent.specs.Buffer.{ChangedIn}
+use Rattle.lent.specs.declared.Areas.{Areas}
+use Rattle.lent.specs.Buffer.{ChangedIn, Laid}
 use Rattle.lent.proofs.Buffer.{changed-none, changed-set}
 use Rattle.dense.specs.Dense.{denseBits, Turned, RowAdded}
 
@@ -56,23 +58,10 @@ differ-bit (suc (suc x)) y h g = absurd (omega arith)
 differ-bit zero (suc (suc y)) h g = absurd (omega arith)
 differ-bit (suc zero) (suc (suc y)) h g = absurd (omega arith)
 
-differ-le : (x y : ℕ) → x < 2 → y < 2 → differ x y < 2
-differ-le zero zero h g = omega arith
-differ-le zero (suc zero) h g = omega arith
-differ-le (suc zero) zero h g = omega arith
-differ-le (suc zero) (suc zero) h g = omega arith
-differ-le (suc (suc x)) y h g = absurd (omega arith)
-differ-le zero (suc (suc y)) h g = absurd (omega arith)
-differ-le (suc zero) (suc (suc y)) h g = absurd (omega arith)
-
--- the lowest bit of two numbers added without carry
-low-bit : (u v : ℕ) → bitXor u v % 2 ≡ differ (u % 2) (v % 2)
-low-bit u v = omega (arith, xor-step u v, differ-le (u % 2) (v % 2) (omega arith) (omega arith))
-
 bit-xor : (u v k : ℕ) → byteBit (bitXor u v) k ≡ xor (byteBit u k) (byteBit v k)
 bit-xor u v k =
     ap (λ (z : ℕ). eqb (z % 2) 1) (xor-shr u v k)
-    ∙ ap (λ (z : ℕ). eqb z 1) (low-bit (u / 2 ^ k) (v / 2 ^ k))
+    ∙ ap (λ (z : ℕ). eqb z 1) (xor-digit (u / 2 ^ k) (v / 2 ^ k))
     ∙ differ-bit (u / 2 ^ k % 2) (v / 2 ^ k % 2) (omega arith) (omega arith)
 
 -- the bits of the powers of two in a byte, computed
@@ -93,7 +82,7 @@ power-bit b k h g =
 -- ---- rows that stay
 
 -- Bits are equal where their bytes are.
-pub dense-same : (xs ys : List ℕ) (s i c : ℕ) → getD ys (i * s + c / 8) 0 ≡ getD xs (i * s + c / 8) 0 → denseBits ys s i c ≡ denseBits xs s i c
+dense-same : (xs ys : List ℕ) (s i c : ℕ) → getD ys (i * s + c / 8) 0 ≡ getD xs (i * s + c / 8) 0 → denseBits ys s i c ≡ denseBits xs s i c
 unfolding denseBits
 dense-same xs ys s i c e = ap (λ (v : ℕ). byteBit v (c % 8)) e
 
@@ -101,6 +90,30 @@ dense-same xs ys s i c e = ap (λ (v : ℕ). byteBit v (c % 8)) e
 pub rows-same : (xs ys : List ℕ) (s k end : ℕ) → k * s ≤ end → ((q : ℕ) → q < end → getD ys q 0 ≡ getD xs q 0)
     → (i : ℕ) → i < k → (c : ℕ) → c / 8 < s → denseBits ys s i c ≡ denseBits xs s i c
 rows-same xs ys s k end h same i l c g = dense-same xs ys s i c (same (i * s + c / 8) (omega (arith, row-gap i k s l)))
+
+-- ---- rows of the work buffer
+
+module _ {a : Areas} {room : ℕ} (laid : Laid a room) where
+  -- a row lies in front of the marks
+  pub row-inside : (i : ℕ) → i < a .checks → i * a .stride + a .stride ≤ a .marks
+  row-inside i h = omega (arith, row-gap i (a .checks) (a .stride) h, laid .rows-end)
+
+  -- the byte of a column lies in its row
+  pub column-inside : (j : ℕ) → j < a .gross → j / 8 < a .stride
+  column-inside j h = in-row (a .gross) (a .stride) j (laid .wide) h
+
+  -- the byte of a bit lies in front of the marks
+  pub bit-inside : (i j : ℕ) → i < a .checks → j < a .gross → i * a .stride + j / 8 < a .marks
+  bit-inside i j h g = omega (arith, row-inside i h, column-inside j g)
+
+  -- the marks lie in the buffer
+  pub marks-inside : a .marks + a .checks ≤ room
+  marks-inside = omega (arith, laid .marks-end, laid .word-end, laid .numbers-end, laid .message-end)
+
+  -- the rows stay where all that lies before some place behind them does
+  pub rows-kept : (before after : List ℕ) (end : ℕ) → a .checks * a .stride ≤ end → ((q : ℕ) → q < end → getD after q 0 ≡ getD before q 0)
+      → (i : ℕ) → i < a .checks → (j : ℕ) → j < a .gross → denseBits after (a .stride) i j ≡ denseBits before (a .stride) i j
+  rows-kept before after end h same i l j g = rows-same before after (a .stride) (a .checks) end h same i l j (column-inside j g)
 
 -- ---- a bit turned
 
@@ -142,9 +155,9 @@ turned-bit s i j v e xs inside h x c g =
           | no f ↦ ap (λ (t : Bool). t && eqb c j) (ne-eqb x i f)
         ]
 
-pub turned : (s i j : ℕ) (xs : List ℕ) → i * s + j / 8 < length xs → j / 8 < s
+pub turn-stored : (s i j : ℕ) (xs : List ℕ) → i * s + j / 8 < length xs → j / 8 < s
     → Turned s i j xs (set xs (i * s + j / 8) (bitXor (getD xs (i * s + j / 8) 0) (1 * 2 ^ (j % 8) % 2 ^ 8)))
-turned s i j xs inside h =
+turn-stored s i j xs inside h =
     record {
       changed = changed-set (changed-none (i * s) (i * s + s) xs) (i * s + j / 8)
           (bitXor (getD xs (i * s + j / 8) 0) (1 * 2 ^ (j % 8) % 2 ^ 8)) (omega arith) (omega arith);
@@ -163,13 +176,13 @@ pub added-start : (s i t : ℕ) (xs : List ℕ) → AddedTo s i t 0 xs xs
 added-start s i t xs =
     record { changed = changed-none (i * s) (i * s + s) xs; done = λ p h. absurd (omega arith); rest = λ p h. refl }
 
--- the row added is as before
-from-row : {s i t b : ℕ} {before after : List ℕ} → AddedTo s i t b before after → (i ≡ t → ⊥) → (p : ℕ) → p < s
-    → getD after (t * s + p) 0 ≡ getD before (t * s + p) 0
-from-row {s} {i} {t} r other p h =
-    elim (decLt t i) [
-      | yes l ↦ r .changed .front (t * s + p) (omega (arith, row-gap t i s l))
-      | no l ↦ r .changed .behind (t * s + p) (omega (arith, row-gap i t s (omega arith)))
+-- the other rows are as before
+other-row : {s i t b : ℕ} {before after : List ℕ} → AddedTo s i t b before after → (x p : ℕ) → (x ≡ i → ⊥) → p < s
+    → getD after (x * s + p) 0 ≡ getD before (x * s + p) 0
+other-row {s} {i} r x p other h =
+    elim (decLt x i) [
+      | yes l ↦ r .changed .front (x * s + p) (omega (arith, row-gap x i s l))
+      | no l ↦ r .changed .behind (x * s + p) (omega (arith, row-gap i x s (omega arith)))
     ]
 
 pub added-next : {s i t b : ℕ} {before after : List ℕ} → AddedTo s i t b before after → (i ≡ t → ⊥) → b < s → i * s + s ≤ length before
@@ -183,7 +196,7 @@ added-next {s} {i} {t} {b} {before} {after} r other h room =
             | yes e ↦
                 rw e
                 (getD-set-same after (i * s + b) v 0 (omega (arith, r .changed .long))
-                ∙ ap₂ bitXor (r .rest b (omega arith)) (from-row r other b h))
+                ∙ ap₂ bitXor (r .rest b (omega arith)) (other-row r t b (λ e. other (sym e)) h))
             | no e ↦ getD-set-other after (i * s + b) (i * s + p) v 0 (λ f. e (omega arith)) ∙ r .done p (omega arith)
           ];
       rest = λ p l. getD-set-other after (i * s + b) (i * s + p) v 0 (λ f. omega arith) ∙ r .rest p (omega arith);
@@ -202,17 +215,10 @@ added-all {s} {i} {t} {before} {after} r =
                 ∙ bit-xor (getD before (i * s + c / 8) 0) (getD before (t * s + c / 8) 0) (c % 8)
                 ∙ sym (ap₂ (λ (y : ℕ) (b : Bool). xor (denseBits before s y c) (b && denseBits before s t c)) e (eq-eqb x i e))
             | no e ↦
-                dense-same before after s x c (other-row x (c / 8) e h)
+                dense-same before after s x c (other-row r x (c / 8) e h)
                 ∙ sym (ap (λ (b : Bool). xor (denseBits before s x c) (b && denseBits before s t c)) (ne-eqb x i e) ∙ xor-none (denseBits before s x c))
           ];
     }
-  where
-    other-row : (x p : ℕ) → (x ≡ i → ⊥) → p < s → getD after (x * s + p) 0 ≡ getD before (x * s + p) 0
-    other-row x p e h =
-        elim (decLt x i) [
-          | yes l ↦ r .changed .front (x * s + p) (omega (arith, row-gap x i s l))
-          | no l ↦ r .changed .behind (x * s + p) (omega (arith, row-gap i x s (omega arith)))
-        ]
 
 -- ---- a check's parity
 

@@ -18,7 +18,7 @@ pub record Turned (stride i j : ℕ) (before after : List ℕ) : Type 0 where
   pub changed : ChangedIn (i * stride) (i * stride + stride) before after
   pub bits : (x c : ℕ) → c / 8 < stride → denseBits after stride x c ≡ xor (denseBits before stride x c) (eqb x i && eqb c j)
 
--- row t is added to row i
-pub record RowAdded (stride i t : ℕ) (before after : List ℕ) : Type 0 where
-  pub changed : ChangedIn (i * stride) (i * stride + stride) before after
-  pub bits : (x c : ℕ) → c / 8 < stride → denseBits after stride x c ≡ xor (denseBits before stride x c) (eqb x i && denseBits before stride t c)
+-- row `from` is added to row `to`
+pub record RowAdded (stride to from : ℕ) (before after : List ℕ) : Type 0 where
+  pub changed : ChangedIn (to * stride) (to * stride + stride) before after
+  pub bits : (x c : ℕ) → c / 8 < stride → denseBits after stride x c ≡ xor (denseBits before stride x c) (eqb x to && denseBits before stride from c)

@@ -25,16 +25,16 @@ pub fn turn(xs: &mut [u8], stride: usize, i: usize, j: usize)
     xs[at] = xs[at] ^ 1 << (j % 8);
 }
 
-// Adds row t to another row i.
-pub fn add_row(xs: &mut [u8], stride: usize, i: usize, t: usize)
-    requires { ⌜ (i ≡ t → ⊥) × (i * stride + stride ≤ length (now xs)) × (t * stride + stride ≤ length (now xs)) ⌝ }
-    ensures { λ _. ⌜ RowAdded stride i t (now (xs .entry)) (now (xs .exit)) ⌝ }
+// Adds row `from` to another row `to`.
+pub fn add_row(xs: &mut [u8], stride: usize, to: usize, from: usize)
+    requires { ⌜ (to ≡ from → ⊥) × (to * stride + stride ≤ length (now xs)) × (from * stride + stride ≤ length (now xs)) ⌝ }
+    ensures { λ _. ⌜ RowAdded stride to from (now (xs .entry)) (now (xs .exit)) ⌝ }
 {
-    let to = i * stride;
-    let from = t * stride;
+    let target = to * stride;
+    let source = from * stride;
     let mut b = 0;
     while b < stride {
-        xs[to + b] = xs[to + b] ^ xs[from + b];
+        xs[target + b] = xs[target + b] ^ xs[source + b];
         b += 1;
     }
 }

@@ -28,7 +28,7 @@ after-next zero s = refl
 after-next (suc n) s = after-next n (nextState s)
 
 -- every state after draws from a state of 64 bits has 64 bits
-pub after-lt : (n s : ℕ) → s < 2 ^ 64 → stateAfter n s < 2 ^ 64
+after-lt : (n s : ℕ) → s < 2 ^ 64 → stateAfter n s < 2 ^ 64
 unfolding stateAfter
 after-lt zero s h = h
 after-lt (suc n) s h = after-lt n (nextState s) (state-lt s)

@@ -68,7 +68,7 @@ pub fn draw(s: u64) -> u32
 }
 
 // The place of a draw with n places left, in single precision: the draw, the quotient and the product
-// are rounded once each. Where their whole part is n, the place is n - 1.
+// are rounded once each; n itself is exact. Where the product's whole part is n, the place is n - 1.
 pub fn place(d: u32, n: u32) -> u32
     requires { ⌜ (0 < n) × (n ≤ 4096) ⌝ }
     ensures { λ r. ⌜ (r ≡ placeOf d n) × (r < n) ⌝ }

@@ -39,7 +39,8 @@ differ-twice (suc (suc x)) y h k = absurd (omega arith)
 xor-half : (v w : ℕ) → bitXor v w / 2 ≡ bitXor (v / 2) (w / 2)
 xor-half v w = omega (arith, xor-step v w, differ-small (v % 2) (w % 2) (digit v) (digit w))
 
-xor-digit : (v w : ℕ) → bitXor v w % 2 ≡ differ (v % 2) (w % 2)
+-- The lowest digit of two numbers exclusive-ored is 1 where theirs differ.
+pub xor-digit : (v w : ℕ) → bitXor v w % 2 ≡ differ (v % 2) (w % 2)
 xor-digit v w = omega (arith, xor-step v w, differ-small (v % 2) (w % 2) (digit v) (digit w))
 
 -- A number exclusive-ored twice with another is itself.

@@ -48,7 +48,8 @@ once-snoc (x ∷ c) n o h =
       once-snoc c n (o .1) (or-right (eqb n x) (has n c) h),
     )
 
-once-those : (n : ℕ) (f : ℕ → Bool) → Once (those n f)
+-- The numbers at which a test holds are named once each.
+pub once-those : (n : ℕ) (f : ℕ → Bool) → Once (those n f)
 unfolding those
 once-those zero f = tt
 once-those (suc n) f =

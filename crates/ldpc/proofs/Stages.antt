@@ -16,7 +16,7 @@ use Rattle.laws.proofs.Agree.{checks-same, codeword-same, message-same}
 use Rattle.lent.specs.Buffer.{part, Laid, ChangedInBoth}
 use Rattle.lent.proofs.Buffer.{laid-as, part-same, both-wider, both-then, both-front, both-back}
 use Rattle.dense.specs.Dense.{denseBits}
-use Rattle.dense.proofs.Dense.{in-row, rows-same}
+use Rattle.dense.proofs.Dense.{rows-kept}
 use Rattle.check_matrix.specs.Build.{Built}
 use Rattle.mending.specs.Marks.{wordIn, checksIn, MendedBy}
 use Rattle.elimination.specs.Reduced.{Eliminated, HoldsElimination}
@@ -33,7 +33,7 @@ module _ (s : Sizes) {before : List ℕ} (laid : Laid (areasOf s) (length before
   -- ---- areas that stay
 
   -- the word, where only rows, marks and what lies behind the word are changed
-  pub word-kept : {end to : ℕ} {after : List ℕ} → ChangedInBoth end (areasOf s .numbers) to before after → end ≤ areasOf s .word
+  word-kept : {end to : ℕ} {after : List ℕ} → ChangedInBoth end (areasOf s .numbers) to before after → end ≤ areasOf s .word
       → wordFor s after ≡ wordFor s before
   unfolding areasOf
   word-kept {after = after} c h =
@@ -42,7 +42,7 @@ module _ (s : Sizes) {before : List ℕ} (laid : Laid (areasOf s) (length before
       (λ i p q. c .between i (omega arith) (omega (arith, laid .word-end)))
 
   -- the net bits, where nothing behind the numbers is changed
-  pub net-kept : {end : ℕ} {after : List ℕ} → ChangedInBoth end (areasOf s .numbers) (areasOf s .message) before after
+  net-kept : {end : ℕ} {after : List ℕ} → ChangedInBoth end (areasOf s .numbers) (areasOf s .message) before after
       → netFor s after ≡ netFor s before
   unfolding areasOf
   net-kept {after = after} c =
@@ -52,7 +52,7 @@ module _ (s : Sizes) {before : List ℕ} (laid : Laid (areasOf s) (length before
 
   -- rows, marks and numbers after building and elimination
   reduced-changed : {built reduced : List ℕ} → RowsBuilt s before built
-      → Eliminated (areasOf s) (denseBits built (areasOf s .stride)) built reduced
+      → Eliminated (areasOf s) built reduced
       → ChangedInBoth (areasOf s .word) (areasOf s .numbers) (areasOf s .message) before reduced
   unfolding areasOf
   reduced-changed b e =
@@ -61,7 +61,7 @@ module _ (s : Sizes) {before : List ℕ} (laid : Laid (areasOf s) (length before
 
   -- what filling the word asks for
   pub fill-fits : {built reduced : List ℕ} → RowsBuilt s before built
-      → Eliminated (areasOf s) (denseBits built (areasOf s .stride)) built reduced → AllBits (netFor s before)
+      → Eliminated (areasOf s) built reduced → AllBits (netFor s before)
       → Laid (areasOf s) (length reduced) × HoldsElimination (areasOf s) reduced × AllBits (part reduced (areasOf s .message) (areasOf s .net))
   unfolding areasOf
   fill-fits {built} {reduced} b e are-bits = (
@@ -78,7 +78,7 @@ module _ (s : Sizes) {before : List ℕ} (laid : Laid (areasOf s) (length before
       (laid-as laid (b .changed .long), subst⁻¹ AllBits (word-kept (b .changed) (omega (arith, laid .marks-end))) are-bits)
 
   pub encoded : {built reduced after : List ℕ} → RowsBuilt s before built
-      → Eliminated (areasOf s) (denseBits built (areasOf s .stride)) built reduced → WordFilled (areasOf s) reduced after → Encoded s before after
+      → Eliminated (areasOf s) built reduced → WordFilled (areasOf s) reduced after → Encoded s before after
   unfolding areasOf codewordFor
   encoded {built} {reduced} b e w =
       let changed = reduced-changed b e in
@@ -107,13 +107,11 @@ module _ (s : Sizes) {before : List ℕ} (laid : Laid (areasOf s) (length before
         bounded = m .bounded;
         stuck-is = m .stuck-is ∙ ap₂ stuck checks word;
         holds = λ i h j g.
-            rows-same built after (areasOf s .stride) (s .checks) (areasOf s .marks) (laid .rows-end) (m .changed .front) i h j
-            (in-row (s .gross) (areasOf s .stride) j (laid .wide) g)
-            ∙ b .holds i h j g;
+            rows-kept laid built after (areasOf s .marks) (laid .rows-end) (m .changed .front) i h j g ∙ b .holds i h j g;
       }
 
   pub message-for : {reduced after : List ℕ} {spare : Bool} → HoldsA s before
-      → Eliminated (areasOf s) (denseBits before (areasOf s .stride)) before reduced → MessageRead (areasOf s) reduced after spare
+      → Eliminated (areasOf s) before reduced → MessageRead (areasOf s) reduced after spare
       → MessageFor s before after spare
   unfolding areasOf messageBitsFor
   message-for {reduced} holds e m =

@@ -18,13 +18,15 @@ pub record RowsBuilt (s : Sizes) (before after : List ℕ) : Type 0 where
   pub changed : ChangedInBoth (areasOf s .marks) (areasOf s .numbers) (areasOf s .message) before after
   pub holds : HoldsA s after
 
--- the word is the codeword of the net bits; only rows, marks, word and numbers are changed
+-- The word is the codeword of the net bits; only rows, marks, word and numbers are changed. Rows, marks and numbers are scratch then:
+-- nothing is said of them.
 pub record Encoded (s : Sizes) (before after : List ℕ) : Type 0 where
   pub changed : ChangedInBoth (areasOf s .word + s .gross) (areasOf s .numbers) (areasOf s .message) before after
   pub word-is : wordFor s after ≡ codewordFor s (netFor s before)
 
 -- The word is the last of the rule's run from the word before, over the checks of A, and repairs, first unmet count and stuck are those
--- of that run. The rows are those of A; only rows, marks, word and numbers are changed.
+-- of that run. The rows are those of A; only rows, marks, word and numbers are changed. Marks and numbers are scratch then: nothing is
+-- said of them.
 pub record MendedFor (s : Sizes) (before after : List ℕ) (repairs first : ℕ) (isStuck : Bool) : Type 0 where
   pub changed : ChangedInBoth (areasOf s .word + s .gross) (areasOf s .numbers) (areasOf s .message) before after
   pub word-is : wordFor s after ≡ lastWord (checksFor s) (wordFor s before)
@@ -35,7 +37,7 @@ pub record MendedFor (s : Sizes) (before after : List ℕ) (repairs first : ℕ)
   pub holds : HoldsA s after
 
 -- The net bits are the first of the word's message bits, and `spare` tells whether another of these is 1. Only rows, marks, numbers and net
--- bits are changed.
+-- bits are changed. Rows, marks and numbers are scratch then: nothing is said of them.
 pub record MessageFor (s : Sizes) (before after : List ℕ) (spare : Bool) : Type 0 where
   pub changed : ChangedInBoth (areasOf s .word) (areasOf s .numbers) (areasOf s .message + s .net) before after
   pub message-is : netFor s after ≡ take (s .net) (messageBitsFor s (wordFor s before))

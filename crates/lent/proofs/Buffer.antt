@@ -106,6 +106,11 @@ pub changed-none : (from to : ℕ) (xs : List ℕ) → ChangedIn from to xs xs
 changed-none from to xs = record { long = refl; front = λ i h. refl; behind = λ i h. refl }
 
 module _ {from to : ℕ} {before after : List ℕ} (c : ChangedIn from to before after) where
+  -- a larger area
+  pub changed-wider : {from′ to′ : ℕ} → from′ ≤ from → to ≤ to′ → ChangedIn from′ to′ before after
+  changed-wider h g =
+      record { long = c .long; front = λ i l. c .front i (omega arith); behind = λ i l. c .behind i (omega arith) }
+
   -- a store inside the area
   pub changed-set : (i v : ℕ) → from ≤ i → i < to → ChangedIn from to before (set after i v)
   changed-set i v h g =
@@ -144,16 +149,13 @@ pub cleared-next : {from i : ℕ} {before after : List ℕ} → Cleared from i b
     → Cleared from (i + 1) before (set after i 0)
 cleared-next {from} {i} {before} {after} c h g =
     record {
-      changed = changed-set wider i 0 h (omega arith);
+      changed = changed-set (changed-wider (c .changed) (omega arith) (omega arith)) i 0 h (omega arith);
       zero-in = λ p l m.
           elim (ℕ-discrete p i) [
             | yes e ↦ rw e (getD-set-same after i 0 0 (omega (arith, c .changed .long)))
             | no e ↦ getD-set-other after i p 0 0 e ∙ c .zero-in p l (omega arith)
           ];
     }
-  where
-    wider : ChangedIn from (i + 1) before after
-    wider = record { long = c .changed .long; front = c .changed .front; behind = λ p l. c .changed .behind p (omega arith) }
 
 -- ---- two areas
 

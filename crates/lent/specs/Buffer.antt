@@ -42,10 +42,15 @@ pub record Cleared (from to : ℕ) (before after : List ℕ) : Type 0 where
   pub changed : ChangedIn from to before after
   pub zero-in : (i : ℕ) → from ≤ i → i < to → getD after i 0 ≡ 0
 
+-- the n numbers from `at` on are 0, 1, .., n - 1, the other places as before
+pub record CountedUp (at n : ℕ) (before after : List ℕ) : Type 0 where
+  pub changed : ChangedIn at (at + 2 * n) before after
+  pub counted : numbersAt after at n ≡ tabulate n (λ j. j)
+
 -- ---- the work buffer
 
--- The areas lie in a buffer of `room` bytes one behind the other, the word right behind the marks. A dense row holds all columns,
--- and the net bits and the checks are together no more than the columns.
+-- The areas lie in a buffer of `room` bytes one behind the other, the word right behind the marks. A dense row holds all columns, of
+-- which there are at most 4,096, and the net bits and the checks are together no more than the columns.
 pub record Laid (a : Areas) (room : ℕ) : Type 0 where
   pub few : a .gross ≤ 4096
   pub parts : a .net + a .checks ≤ a .gross

@@ -3,10 +3,10 @@
 // Two parts of one buffer cannot be lent at once where one of them is stored to. So the functions of
 // error correction take the whole work buffer and the places of their areas, and each says where it
 // changes the buffer at most.
-ghost use Prim.Native.Nat.{_+_, _≤_, _<_};
+ghost use Prim.Native.Nat.{_+_, _*_, _≤_, _<_};
 ghost use mathlib.Core.Path.{_≡_};
 ghost use lib.ListN.{length};
-ghost use Rattle.lent.specs.Buffer.{numberAt, storedNumber, Cleared};
+ghost use Rattle.lent.specs.Buffer.{numberAt, storedNumber, Cleared, CountedUp};
 
 // The areas of the work buffer. In front lie the dense rows of a check matrix, `checks` rows of
 // `stride` bytes; behind them `checks` marks of a byte each, from `marks` on; then the word, `gross`
@@ -49,5 +49,17 @@ pub fn clear(xs: &mut [u8], from: usize, to: usize)
     while i < to {
         xs[i] = 0;
         i += 1;
+    }
+}
+
+// Stores the numbers 0, 1, .., n - 1 from `at` on.
+pub fn count_up(xs: &mut [u8], at: usize, n: usize)
+    requires { ⌜ (n ≤ 4096) × (at + 2 * n ≤ length (now xs)) ⌝ }
+    ensures { λ _. ⌜ CountedUp at n (now (xs .entry)) (now (xs .exit)) ⌝ }
+{
+    let mut j = 0;
+    while j < n {
+        put_number(xs, at + 2 * j, j);
+        j += 1;
     }
 }

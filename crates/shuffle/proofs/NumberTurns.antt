@@ -7,11 +7,11 @@ use mathlib.Core.List.{List}
 use native.Mathlib.Omega.{arith}
 use lib.ListN.{length}
 use Rattle.symbology.specs.Generator.{nextState, stateAfter}
-use Rattle.symbology.specs.Shuffle.{drawnPlace, shuffled, unshuffled}
+use Rattle.symbology.specs.Shuffle.{drawnPlace}
 use Rattle.lent.specs.Buffer.{numbersAt, ChangedIn}
 use Rattle.lent.proofs.Buffer.{length-numbers, changed-none}
 use Rattle.draws.specs.Backwards.{previousState}
-use Rattle.shuffle.specs.Numbers.{exchangedNumbers}
+use Rattle.shuffle.specs.Numbers.{exchangedNumbers, NumbersShuffled, NumbersUnshuffled}
 use Rattle.shuffle.proofs.Forwards.{Permuting, permuting-start, permuting-next, permuting-done}
 use Rattle.shuffle.proofs.Backwards.{Restoring, restoring-start, restoring-next, restoring-done}
 use Rattle.shuffle.proofs.Exchanged.{exchanged-numbers, exchanged-changed}
@@ -45,11 +45,10 @@ module _ {xs : List ℕ} {at n state left s : ℕ} {ys : List ℕ} (p : Permutin
         changed = rw g (exchanged-changed place (left - 1) (p .changed) (omega arith) (omega arith));
       }
 
-  pub numbers-permuting-done : left ≡ 0
-      → (numbersAt ys at n ≡ shuffled 0 state (numbersAt xs at n)) × (s ≡ stateAfter n state) × ChangedIn at (at + 2 * n) xs ys
+  pub numbers-permuting-done : left ≡ 0 → NumbersShuffled at n state xs ys × (s ≡ stateAfter n state)
   numbers-permuting-done e =
       let d = permuting-done (p .numbers) e in
-      (d .0, d .1 ∙ rw (length-numbers xs at n), p .changed)
+      (record { changed = p .changed; numbers-are = d .0 }, d .1 ∙ rw (length-numbers xs at n))
 
 -- ---- backwards
 
@@ -81,5 +80,6 @@ module _ {xs : List ℕ} {at n state done s : ℕ} {ys : List ℕ} (r : Restorin
         changed = rw g (exchanged-changed place done (r .changed) (omega arith) h);
       }
 
-  pub numbers-restoring-done : done ≡ n → (numbersAt ys at n ≡ unshuffled 0 state (numbersAt xs at n)) × ChangedIn at (at + 2 * n) xs ys
-  numbers-restoring-done e = (restoring-done (r .numbers) (omega (arith, length-numbers xs at n)), r .changed)
+  pub numbers-restoring-done : done ≡ n → NumbersUnshuffled at n state xs ys
+  numbers-restoring-done e =
+      record { changed = r .changed; numbers-are = restoring-done (r .numbers) (omega (arith, length-numbers xs at n)) }

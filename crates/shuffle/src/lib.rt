@@ -6,8 +6,7 @@
 ghost use Prim.Native.Nat.{_+_, _*_, _≤_, _<_};
 ghost use mathlib.Core.Path.{_≡_};
 ghost use lib.ListN.{length};
-ghost use Rattle.lent.specs.Buffer.{numbersAt, ChangedIn};
-ghost use Rattle.shuffle.specs.Numbers.{exchangedNumbers};
+ghost use Rattle.shuffle.specs.Numbers.{exchangedNumbers, NumbersShuffled, NumbersUnshuffled};
 ghost use Rattle.symbology.specs.Generator.{stateAfter};
 ghost use Rattle.symbology.specs.Shuffle.{exchanged, shuffled, unshuffled};
 
@@ -69,7 +68,7 @@ fn exchange_numbers(xs: &mut [u8], at: usize, i: usize, j: usize)
 // Permutes the n numbers from `at` on, and answers the state after the draws.
 pub fn shuffle_numbers(xs: &mut [u8], at: usize, n: usize, state: u64) -> u64
     requires { ⌜ (n ≤ 4096) × (at + 2 * n ≤ length (now xs)) ⌝ }
-    ensures { λ r. ⌜ (numbersAt (now (xs .exit)) at n ≡ shuffled 0 state (numbersAt (now (xs .entry)) at n)) × (r ≡ stateAfter n state) × ChangedIn at (at + 2 * n) (now (xs .entry)) (now (xs .exit)) ⌝ }
+    ensures { λ r. ⌜ NumbersShuffled at n state (now (xs .entry)) (now (xs .exit)) × (r ≡ stateAfter n state) ⌝ }
 {
     let mut s = state;
     let mut left = n;
@@ -84,7 +83,7 @@ pub fn shuffle_numbers(xs: &mut [u8], at: usize, n: usize, state: u64) -> u64
 // Undoes the permutation of numbers made from the same state.
 pub fn unshuffle_numbers(xs: &mut [u8], at: usize, n: usize, state: u64)
     requires { ⌜ (n ≤ 4096) × (at + 2 * n ≤ length (now xs)) ⌝ }
-    ensures { λ _. ⌜ (numbersAt (now (xs .exit)) at n ≡ unshuffled 0 state (numbersAt (now (xs .entry)) at n)) × ChangedIn at (at + 2 * n) (now (xs .entry)) (now (xs .exit)) ⌝ }
+    ensures { λ _. ⌜ NumbersUnshuffled at n state (now (xs .entry)) (now (xs .exit)) ⌝ }
 {
     let mut s = draws::state_after(n, state);
     let mut done = 0;

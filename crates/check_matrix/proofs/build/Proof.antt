@@ -52,11 +52,11 @@ turn-block-requires c κs =
     let size = sized (a .t) (a .wc) (a .wr) (entry .pre) in
     let built = c .before .before .before .before .before .before .loop .inv .1 in
     let same =
-    c .before .before .before .shuffle-numbers .ensures .2 .long ∙ built .changed .long
+    c .before .before .before .shuffle-numbers .ensures .0 .changed .long ∙ built .changed .long
     ∙ c .before .before .before .before .before .before .before .before .before .count-up .ensures .changed .long
     ∙ c .before .before .before .before .before .before .before .before .before .before .before .before .before .clear .ensures .changed .long in
     let end = block-end size built (omega arith) in
-    (rw same (entry .pre .0), block-fits size built _ _ _ (c .before .before .before .shuffle-numbers .ensures .0) (omega (arith, end)))
+    (rw same (entry .pre .0), block-fits size built _ _ _ (c .before .before .before .shuffle-numbers .ensures .0 .numbers-are) (omega (arith, end)))
 
 add-block : tie.Need-add-block Inv-loop μ-loop
 add-block c = omega arith
@@ -71,7 +71,7 @@ loop-again c =
     let mixed = c .before .before .before .before .before .before .shuffle-numbers .ensures in (
       omega arith,
       blocks-next (sized (a .t) (a .wc) (a .wr) (entry .pre)) (c .before .before .before .before .before .before .before .before .before .loop .inv .1) _
-          (mixed .0) (mixed .2) (c .before .before .turn-block .ensures) (mixed .1),
+          (mixed .0 .numbers-are) (mixed .0 .changed) (c .before .before .turn-block .ensures) (mixed .1),
     )
 
 same-length : tie.Need-same-length Inv-loop μ-loop

@@ -4,7 +4,7 @@ use mathlib.Core.Path.{_≡_, ap, _∙_}
 use mathlib.Core.Logic.{⊎-elim}
 use native.Mathlib.Omega.{arith}
 use borrow.Author.Tests.{le-leb}
-use Rattle.dense.proofs.Dense.{row-gap}
+use Rattle.dense.proofs.Dense.{row-inside, marks-inside}
 use Rattle.symbology.specs.Matrix.{checkOf}
 use Rattle.symbology.specs.Rule.{unmet}
 use Rattle.lent.specs.Buffer.{part}
@@ -38,15 +38,11 @@ number-at-requires c κs =
 
 parity-requires : tie.Need-parity-requires Inv-loop μ-loop
 parity-requires c κs =
-    let pre = c .before .before .before .before .before .before .before .before .pre in
-    let args = c .before .before .before .before .before .before .before .before .args in
-    let loop = c .before .before .before .before .before .before .loop in
-    let laid = pre .0 in
-    let a = args .a in
-    let gap = row-gap (c .before .before .number-at .result) (a .checks) (a .stride) (c .before .if2 .taken) in
-    let long = loop .inv .1 .changed .long in (
+    let laid = c .before .before .before .before .before .before .before .before .pre .0 in
+    let long = c .before .before .before .before .before .before .loop .inv .1 .changed .long in
+    let row = row-inside laid (c .before .before .number-at .result) (c .before .if2 .taken) in (
       laid .wide,
-      omega (arith, gap, long, laid .rows-end, laid .marks-end, laid .word-end, laid .numbers-end, laid .message-end),
+      omega (arith, row, marks-inside laid, long),
       omega (arith, long, laid .word-end, laid .numbers-end, laid .message-end),
     )
 

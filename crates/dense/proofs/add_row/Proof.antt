@@ -7,19 +7,19 @@ use Rattle.dense.proofs.add_row.Statement.{statement}
 use Rattle.dense.proofs.add_row.Tie as tie
 
 abbrev Inv-loop : tie.InvT-loop
-Inv-loop xs₀ stride i t to from b₀ xs b = (b ≤ stride) × AddedTo stride i t b xs₀ xs
+Inv-loop xs₀ stride to from target source b₀ xs b = (b ≤ stride) × AddedTo stride to from b xs₀ xs
 
 abbrev μ-loop : tie.MeasureT-loop
-μ-loop xs₀ stride i t to from b₀ xs b = stride - b
+μ-loop xs₀ stride to from target source b₀ xs b = stride - b
 
-mul-to : tie.Need-mul-to Inv-loop μ-loop
-mul-to c = omega arith
+mul-target : tie.Need-mul-target Inv-loop μ-loop
+mul-target c = omega arith
 
-mul-from : tie.Need-mul-from Inv-loop μ-loop
-mul-from c = omega arith
+mul-source : tie.Need-mul-source Inv-loop μ-loop
+mul-source c = omega arith
 
 loop-holds : tie.Need-loop-holds Inv-loop μ-loop
-loop-holds c = (omega arith, added-start (c .args .stride) (c .args .i) (c .args .t) (c .args .xs .now))
+loop-holds c = (omega arith, added-start (c .args .stride) (c .args .to) (c .args .from) (c .args .xs .now))
 
 add-xs : tie.Need-add-xs Inv-loop μ-loop
 add-xs c = omega arith
@@ -62,8 +62,8 @@ add-row-spec =
     (tie.spec
     Inv-loop
     μ-loop
-    mul-to
-    mul-from
+    mul-target
+    mul-source
     loop-holds
     add-xs
     slice-read-xs

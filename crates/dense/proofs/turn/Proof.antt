@@ -1,5 +1,5 @@
 -- `dense::turn` meets its contract. Assumes nothing.
-use Rattle.dense.proofs.Dense.{turned}
+use Rattle.dense.proofs.Dense.{turn-stored}
 use borrow.Author.Needs.{needs}
 use Rattle.dense.proofs.turn.Statement.{statement}
 use Rattle.dense.proofs.turn.Tie as tie
@@ -26,7 +26,7 @@ same-length : tie.Need-same-length
 same-length c = search needs
 
 returns : tie.Need-returns
-returns c = turned (c .before .args .stride) (c .before .args .i) (c .before .args .j) (c .before .args .xs .now) (c .before .pre .0) (c .before .pre .1)
+returns c = turn-stored (c .before .args .stride) (c .before .args .i) (c .before .args .j) (c .before .args .xs .now) (c .before .pre .0) (c .before .pre .1)
 
 pub turn-spec : {M : Type 1} → statement M
 turn-spec =

@@ -7,7 +7,6 @@ use Rattle.symbology.specs.Bits.{AllBits}
 use Rattle.lent.specs.declared.Areas.{Areas}
 use Rattle.lent.specs.Buffer.{part, Laid}
 use Rattle.lent.proofs.Buffer.{laid-as}
-use Rattle.dense.specs.Dense.{denseBits}
 use Rattle.elimination.specs.Reduced.{Eliminated, HoldsElimination}
 use Rattle.codeword.specs.Columns.{WordFilled}
 use Rattle.ldpc.proofs.Work.{areas-laid}
@@ -40,7 +39,7 @@ fill-word-requires c κs =
     subst⁻¹ (λ (a : Areas). Laid a (length (e .last .0)) × HoldsElimination a (e .last .0) × AllBits (part (e .last .0) (a .message) (a .net)))
     same
     (fill-fits (s .args .s) (areas-laid (s .pre .0) (s .pre .1)) (b .ensures)
-    (subst (λ (a : Areas). Eliminated a (denseBits built (a .stride)) built (e .last .0)) same (e .ensures)) (s .pre .2))
+    (subst (λ (a : Areas). Eliminated a built (e .last .0)) same (e .ensures)) (s .pre .2))
 
 same-length : tie.Need-same-length
 same-length c = search needs
@@ -54,7 +53,7 @@ returns c =
     let e = c .before .before .before .before .before .before .eliminate in
     let f = c .before .before .fill-word in
     encoded (s .args .s) (areas-laid (s .pre .0) (s .pre .1)) (b .ensures)
-    (subst (λ (a : Areas). Eliminated a (denseBits built (a .stride)) built (e .last .0)) same (e .ensures))
+    (subst (λ (a : Areas). Eliminated a built (e .last .0)) same (e .ensures))
     (subst (λ (a : Areas). WordFilled a (e .last .0) (f .last .0)) same (f .ensures))
 
 pub encode-spec : {M : Type 1} → statement M

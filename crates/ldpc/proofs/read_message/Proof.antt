@@ -46,7 +46,7 @@ returns c =
     let e = c .before .before .before .before .before .before .eliminate in
     let r = c .before .before .read-message in
     message-for (s .args .s) (areas-laid (s .pre .0) (s .pre .1)) (s .pre .2)
-    (subst (λ (a : Areas). Eliminated a (denseBits entry (a .stride)) entry (e .last .0)) same (e .ensures))
+    (subst (λ (a : Areas). Eliminated a entry (e .last .0)) same (e .ensures))
     (subst (λ (a : Areas). MessageRead a (e .last .0) (r .last .0) (r .result)) same (r .ensures))
 
 pub read-message-spec : {M : Type 1} → statement M

@@ -1,21 +1,21 @@
--- `check_matrix::count_up` meets its contract: the invariant is how many of the numbers are stored. Assumes nothing.
+-- `lent::count_up` meets its contract: the invariant is how many of the numbers are stored. Assumes nothing.
 use Prim.Native.Nat.{_-_}
 use native.Mathlib.Omega.{arith}
 use borrow.Author.Needs.{needs}
-use Rattle.check_matrix.proofs.Counting.{CountingUp, counting-start, counting-next, counting-done}
-use Rattle.check_matrix.proofs.count_up.Statement.{statement}
-use Rattle.check_matrix.proofs.count_up.Tie as tie
+use Rattle.lent.proofs.Counting.{CountingUp, counting-start, counting-next, counting-done}
+use Rattle.lent.proofs.count_up.Statement.{statement}
+use Rattle.lent.proofs.count_up.Tie as tie
 
 abbrev Inv-loop : tie.InvT-loop
-Inv-loop work₀ at n j₀ work j = CountingUp at n j work₀ work
+Inv-loop xs₀ at n j₀ xs j = CountingUp at n j xs₀ xs
 
 abbrev μ-loop : tie.MeasureT-loop
-μ-loop work₀ at n j₀ work j = n - j
+μ-loop xs₀ at n j₀ xs j = n - j
 
 loop-holds : tie.Need-loop-holds Inv-loop μ-loop
 loop-holds c =
     let p = c .before .args in
-    counting-start (p .at) (p .n) (p .work .now)
+    counting-start (p .at) (p .n) (p .xs .now)
 
 mul-put-number : tie.Need-mul-put-number Inv-loop μ-loop
 mul-put-number c = search needs

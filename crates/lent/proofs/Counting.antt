@@ -9,9 +9,8 @@ use lib.ListN.{length, getD, set}
 use lib.Seq.{getD-set-same, getD-set-other, ext-getD}
 use Rattle.symbology.specs.Ranges.{tabulate}
 use Rattle.laws.proofs.Ranges.{length-tabulate, getD-tabulate}
-use Rattle.lent.specs.Buffer.{numbersAt, storedNumber, ChangedIn}
+use Rattle.lent.specs.Buffer.{numbersAt, storedNumber, ChangedIn, CountedUp}
 use Rattle.lent.proofs.Buffer.{length-numbers, stored-numbers, changed-none, changed-stored}
-use Rattle.check_matrix.specs.Build.{CountedUp}
 
 -- the first j of the n numbers from `at` on are stored
 pub record CountingUp (at n j : ℕ) (before after : List ℕ) : Type 0 where
