@@ -15,205 +15,226 @@ use Rattle.symbology.specs.Ranges.{lowest}
 use Rattle.symbology.specs.Matrix.{BitMatrix}
 use Rattle.symbology.specs.Codeword.{isCheckColumn}
 use Rattle.symbology.proofs.Ranges.{and-left, and-right}
-use Rattle.laws.proofs.Ranges.{lowest-holds, lowest-before}
+use Rattle.laws.proofs.Ranges.{lowest-holds, lowest-before, lowest-to}
 use Rattle.laws.proofs.Columns.{check-laws}
 use Rattle.laws.proofs.Elimination.{Inv, start, inv-ext, clear-message, clear-step, pivot-check, pivot-step}
 use Rattle.lent.specs.declared.Areas.{Areas}
 use Rattle.lent.specs.Buffer.{storedNumber, ChangedInBoth, Cleared, Laid}
 use Rattle.lent.proofs.Buffer.{number-same, stored-there, stored-other, changed-none, changed-set, changed-stored, both-none, both-front, both-back}
-use Rattle.dense.specs.Dense.{denseBits}
-use Rattle.dense.proofs.Dense.{in-row, rows-same}
+use Rattle.dense.proofs.Dense.{marks-inside, rows-kept}
 use Rattle.elimination.specs.Reduced.{isFree, isUsed, rowOf, ColumnCleared, EliminatedFrom, Eliminated}
+use Rattle.elimination.proofs.Cleared.{rows}
 
 -- whether a column is a check column
 abbrev isCheck : Areas → BitMatrix → ℕ → Bool
 isCheck a m = isCheckColumn (a .checks) (a .gross) m
 
+-- what holds of the rows, marks and numbers of a buffer when the columns from j on are eliminated
+abbrev InvOf : Areas → BitMatrix → List ℕ → ℕ → Type 0
+InvOf a m work j = Inv (a .checks) (a .gross) m (isCheck a m) (rows a work) (isUsed a work) (rowOf a work) j
+
 -- ---- the state
 
 -- the columns from j on are eliminated, and only rows, marks and numbers are changed
-pub record Eliminating (a : Areas) (m : BitMatrix) (j : ℕ) (before after : List ℕ) : Type 0 where
-  pub most : j ≤ a .gross
+pub record Eliminating (a : Areas) (j : ℕ) (before after : List ℕ) : Type 0 where
+  pub left : j ≤ a .gross
   pub changed : ChangedInBoth (a .marks + a .checks) (a .numbers) (a .numbers + 2 * a .gross) before after
-  pub whole : EliminatedFrom a m j after
+  whole : EliminatedFrom a (rows a before) j after
 
 -- Before the first step no row is marked.
 pub eliminating-start : {a : Areas} {before after : List ℕ} → Laid a (length before) → Cleared (a .marks) (a .marks + a .checks) before after
-    → Eliminating a (denseBits before (a .stride)) (a .gross) before after
+    → Eliminating a (a .gross) before after
 eliminating-start {a} {before} {after} l c =
-    let m : BitMatrix = denseBits before (a .stride) in
+    let m : BitMatrix = rows a before in
     record {
-      most = omega arith;
+      left = omega arith;
       changed = both-front (both-none (a .marks + a .checks) (a .numbers) (a .numbers + 2 * a .gross) before) (c .changed) (omega arith)
           (omega (arith, l .marks-end, l .word-end));
       whole = record {
-        reduced = start (a .checks) (a .gross) m (isCheck a m) (denseBits after (a .stride)) (isUsed a after) (rowOf a after)
-            (λ i h x g. rows-same before after (a .stride) (a .checks) (a .marks) (l .rows-end) (c .changed .front) i h x (in-row (a .gross) (a .stride) x (l .wide) g))
+        reduced = start (a .checks) (a .gross) m (isCheck a m) (rows a after) (isUsed a after) (rowOf a after)
+            (rows-kept l before after (a .marks) (l .rows-end) (c .changed .front))
             (λ i h. ap (λ (v : ℕ). not (eqb v 0)) (c .zero-in (a .marks + i) (omega arith) (omega arith)));
         judged = λ x h g. absurd (omega arith);
+        most = λ x h g. absurd (omega arith);
+        marks = λ i h. omega (arith, c .zero-in (a .marks + i) (omega arith) (omega arith));
       };
     }
 
 -- after the last step
-pub eliminating-all : {a : Areas} {m : BitMatrix} {before after : List ℕ} → Eliminating a m 0 before after → Eliminated a m before after
+pub eliminating-all : {a : Areas} {before after : List ℕ} → Eliminating a 0 before after → Eliminated a before after
 eliminating-all e = record { changed = e .changed; whole = e .whole }
 
 -- ---- the step of column j
 
--- the number of the column's row is stored
-abbrev noted : Areas → List ℕ → ℕ → ℕ → List ℕ
-noted a work j t = storedNumber work (a .numbers + 2 * j) t
+module _ {a : Areas} {j pivot : ℕ} {before work : List ℕ} (l : Laid a (length before))
+    (e : Eliminating a (suc j) before work) (found : pivot ≡ lowest (isFree a work j) (a .checks) 0) where
+  -- the matrix
+  abbrev m : BitMatrix
+  m = rows a before
 
--- the row is marked
-abbrev marked : Areas → List ℕ → ℕ → List ℕ
-marked a work t = set work (a .marks + t) 1
+  -- the buffer with the number of the column's row
+  abbrev noted : List ℕ
+  noted = storedNumber work (a .numbers + 2 * j) pivot
 
-module _ {a : Areas} {m : BitMatrix} {j t : ℕ} {before work : List ℕ} (l : Laid a (length before))
-    (e : Eliminating a m (suc j) before work) (found : t ≡ lowest (isFree a work j) (a .checks) 0) where
   -- rows and marks are as before
-  early : (i : ℕ) → i < a .numbers → getD (noted a work j t) i 0 ≡ getD work i 0
-  early i h = stored-other work (a .numbers + 2 * j) t i (λ f. omega arith) (λ f. omega arith)
+  early : (i : ℕ) → i < a .numbers → getD noted i 0 ≡ getD work i 0
+  early i h = stored-other work (a .numbers + 2 * j) pivot i (λ f. omega arith) (λ f. omega arith)
 
-  noted-bits : (i : ℕ) → i < a .checks → (c : ℕ) → c < a .gross → denseBits (noted a work j t) (a .stride) i c ≡ denseBits work (a .stride) i c
-  noted-bits i h c g =
-      rows-same work (noted a work j t) (a .stride) (a .checks) (a .numbers) (omega (arith, l .rows-end, l .marks-end, l .word-end)) early i h c
-      (in-row (a .gross) (a .stride) c (l .wide) g)
+  noted-bits : (i : ℕ) → i < a .checks → (c : ℕ) → c < a .gross → rows a noted i c ≡ rows a work i c
+  noted-bits = rows-kept l work noted (a .numbers) (omega (arith, l .rows-end, l .marks-end, l .word-end)) early
 
-  noted-used : (i : ℕ) → i < a .checks → isUsed a (noted a work j t) i ≡ isUsed a work i
-  noted-used i h = ap (λ (v : ℕ). not (eqb v 0)) (early (a .marks + i) (omega (arith, l .marks-end, l .word-end)))
+  noted-mark : (i : ℕ) → i < a .checks → getD noted (a .marks + i) 0 ≡ getD work (a .marks + i) 0
+  noted-mark i h = early (a .marks + i) (omega (arith, l .marks-end, l .word-end))
+
+  noted-used : (i : ℕ) → i < a .checks → isUsed a noted i ≡ isUsed a work i
+  noted-used i h = ap (λ (v : ℕ). not (eqb v 0)) (noted-mark i h)
 
   -- the numbers of later columns are as before
-  noted-later : (c : ℕ) → j < c → rowOf a (noted a work j t) c ≡ rowOf a work c
+  noted-later : (c : ℕ) → j < c → rowOf a noted c ≡ rowOf a work c
   noted-later c h =
-      number-same work (noted a work j t) (a .numbers + 2 * c)
-      (stored-other work (a .numbers + 2 * j) t (a .numbers + 2 * c) (λ f. omega arith) (λ f. omega arith))
-      (stored-other work (a .numbers + 2 * j) t (a .numbers + 2 * c + 1) (λ f. omega arith) (λ f. omega arith))
+      number-same work noted (a .numbers + 2 * c)
+      (stored-other work (a .numbers + 2 * j) pivot (a .numbers + 2 * c) (λ f. omega arith) (λ f. omega arith))
+      (stored-other work (a .numbers + 2 * j) pivot (a .numbers + 2 * c + 1) (λ f. omega arith) (λ f. omega arith))
 
-  -- that of column j is t
-  noted-row : rowOf a (noted a work j t) j ≡ t
-  noted-row = stored-there work (a .numbers + 2 * j) t (omega (arith, l .numbers-end, l .message-end, e .most, e .changed .long))
+  -- that of column j is the row found
+  noted-row : rowOf a noted j ≡ pivot
+  noted-row = stored-there work (a .numbers + 2 * j) pivot (omega (arith, l .numbers-end, l .message-end, e .left, e .changed .long))
 
-  noted-changed : ChangedInBoth (a .marks + a .checks) (a .numbers) (a .numbers + 2 * a .gross) before (noted a work j t)
+  noted-changed : ChangedInBoth (a .marks + a .checks) (a .numbers) (a .numbers + 2 * a .gross) before noted
   noted-changed =
       both-back (e .changed)
-      (changed-stored (changed-none (a .numbers) (a .numbers + 2 * a .gross) work) (a .numbers + 2 * j) t (omega arith) (omega (arith, e .most)))
+      (changed-stored (changed-none (a .numbers) (a .numbers + 2 * a .gross) work) (a .numbers + 2 * j) pivot (omega arith) (omega (arith, e .left)))
       (omega arith) (omega arith)
 
-  noted-inv : Inv (a .checks) (a .gross) m (isCheck a m) (denseBits (noted a work j t) (a .stride))
-      (isUsed a (noted a work j t)) (rowOf a (noted a work j t)) (suc j)
+  noted-inv : InvOf a m noted (suc j)
   noted-inv =
-      inv-ext (a .checks) (a .gross) m (isCheck a m) (denseBits work (a .stride)) (denseBits (noted a work j t) (a .stride))
-      (isUsed a work) (isUsed a (noted a work j t)) (rowOf a work) (rowOf a (noted a work j t)) (suc j) (e .whole .reduced) noted-bits noted-used
-      (λ c h g. noted-later c (omega arith))
+      inv-ext (a .checks) (a .gross) m (isCheck a m) (rows a work) (rows a noted) (isUsed a work) (isUsed a noted) (rowOf a work) (rowOf a noted)
+      (suc j) (e .whole .reduced) noted-bits noted-used (λ c h g. noted-later c (omega arith))
 
-  noted-judged : (c : ℕ) → j < c → c < a .gross → ltb (rowOf a (noted a work j t) c) (a .checks) ≡ isCheck a m c
+  noted-judged : (c : ℕ) → j < c → c < a .gross → ltb (rowOf a noted c) (a .checks) ≡ isCheck a m c
   noted-judged c h g = ap (λ (x : ℕ). ltb x (a .checks)) (noted-later c h) ∙ e .whole .judged c (omega arith) g
+
+  noted-most : (c : ℕ) → j ≤ c → c < a .gross → rowOf a noted c ≤ a .checks
+  noted-most c h g =
+      elim (ℕ-discrete c j) [
+        | yes same ↦ rw same (omega (arith, noted-row, found, lowest-to (isFree a work j) (a .checks) 0))
+        | no other ↦ omega (arith, noted-later c (omega arith), e .whole .most c (omega arith) g)
+      ]
+
+  noted-marks : (i : ℕ) → i < a .checks → getD noted (a .marks + i) 0 ≤ 1
+  noted-marks i h = omega (arith, noted-mark i h, e .whole .marks i h)
 
   -- ---- no row is free
 
-  module _ (end : a .checks ≤ t) where
+  module _ (end : a .checks ≤ pivot) where
     -- the column is 0 in all unused rows
-    zeros : (i : ℕ) → i < a .checks → isUsed a (noted a work j t) i ≡ false → denseBits (noted a work j t) (a .stride) i j ≡ false
+    zeros : (i : ℕ) → i < a .checks → isUsed a noted i ≡ false → rows a noted i j ≡ false
     zeros i h u =
         let unmarked : eqb (getD work (a .marks + i) 0) 0 ≡ true = not-false (eqb (getD work (a .marks + i) 0) 0) (sym (noted-used i h) ∙ u) in
-        noted-bits i h j (omega (arith, e .most))
-        ∙ sym (ap (λ (b : Bool). b && denseBits work (a .stride) i j) unmarked)
+        noted-bits i h j (omega (arith, e .left))
+        ∙ sym (ap (λ (b : Bool). b && rows a work i j) unmarked)
         ∙ lowest-before (isFree a work j) (a .checks) 0 i (omega arith) (omega arith)
 
     message-column : isCheck a m j ≡ false
     message-column =
-        clear-message (a .checks) (a .gross) m (isCheck a m) (denseBits (noted a work j t) (a .stride))
-        (isUsed a (noted a work j t)) (rowOf a (noted a work j t)) (check-laws (a .checks) (a .gross) m) j (omega (arith, e .most)) noted-inv zeros
+        clear-message (a .checks) (a .gross) m (isCheck a m) (rows a noted) (isUsed a noted) (rowOf a noted)
+        (check-laws (a .checks) (a .gross) m) j (omega (arith, e .left)) noted-inv zeros
 
-    pub message-step : Eliminating a m j before (storedNumber work (a .numbers + 2 * j) t)
+    pub message-step : Eliminating a j before (storedNumber work (a .numbers + 2 * j) pivot)
     message-step =
         record {
-          most = omega (arith, e .most);
+          left = omega (arith, e .left);
           changed = noted-changed;
           whole = record {
-            reduced = clear-step (a .checks) (a .gross) m (isCheck a m) (denseBits (noted a work j t) (a .stride))
-                (isUsed a (noted a work j t)) (rowOf a (noted a work j t)) j noted-inv message-column zeros;
+            reduced = clear-step (a .checks) (a .gross) m (isCheck a m) (rows a noted) (isUsed a noted) (rowOf a noted) j
+                noted-inv message-column zeros;
             judged = λ c h g.
                 elim (ℕ-discrete c j) [
-                  | yes same ↦ rw same (le-ltb (rowOf a (noted a work j t) j) (a .checks) (omega (arith, noted-row)) ∙ sym message-column)
+                  | yes same ↦ rw same (le-ltb (rowOf a noted j) (a .checks) (omega (arith, noted-row)) ∙ sym message-column)
                   | no other ↦ noted-judged c (omega arith) g
                 ];
+            most = noted-most;
+            marks = noted-marks;
           };
         }
 
-  -- ---- row t is free
+  -- ---- a row is free
 
-  module _ {later : List ℕ} (less : t < a .checks) (d : ColumnCleared a t j (storedNumber work (a .numbers + 2 * j) t) later) where
+  module _ {later : List ℕ} (less : pivot < a .checks) (d : ColumnCleared a pivot j (storedNumber work (a .numbers + 2 * j) pivot) later) where
+    -- the buffer with the row marked
+    abbrev marked : List ℕ
+    marked = set later (a .marks + pivot) 1
+
     -- the row found has no mark and has a 1 in the column
-    free : isFree a work j t ≡ true
+    free : isFree a work j pivot ≡ true
     free = subst⁻¹ (λ (x : ℕ). isFree a work j x ≡ true) found (lowest-holds (isFree a work j) (a .checks) 0 (omega arith))
 
-    unused : isUsed a (noted a work j t) t ≡ false
-    unused = noted-used t less ∙ ap not (and-left (eqb (getD work (a .marks + t) 0) 0) (denseBits work (a .stride) t j) free)
+    unused : isUsed a noted pivot ≡ false
+    unused = noted-used pivot less ∙ ap not (and-left (eqb (getD work (a .marks + pivot) 0) 0) (rows a work pivot j) free)
 
-    one : denseBits (noted a work j t) (a .stride) t j ≡ true
-    one =
-        noted-bits t less j (omega (arith, e .most))
-        ∙ and-right (eqb (getD work (a .marks + t) 0) 0) (denseBits work (a .stride) t j) free
+    one : rows a noted pivot j ≡ true
+    one = noted-bits pivot less j (omega (arith, e .left)) ∙ and-right (eqb (getD work (a .marks + pivot) 0) 0) (rows a work pivot j) free
 
     check-column : isCheck a m j ≡ true
     check-column =
-        pivot-check (a .checks) (a .gross) m (isCheck a m) (denseBits (noted a work j t) (a .stride))
-        (isUsed a (noted a work j t)) (rowOf a (noted a work j t)) (check-laws (a .checks) (a .gross) m) j (omega (arith, e .most)) noted-inv t less unused one
+        pivot-check (a .checks) (a .gross) m (isCheck a m) (rows a noted) (isUsed a noted) (rowOf a noted)
+        (check-laws (a .checks) (a .gross) m) j (omega (arith, e .left)) noted-inv pivot less unused one
 
     -- the mark stands behind the rows
     marked-bits : (i : ℕ) → i < a .checks → (c : ℕ) → c < a .gross
-        → denseBits (marked a later t) (a .stride) i c
-        ≡ xor (denseBits (noted a work j t) (a .stride) i c)
-        ((denseBits (noted a work j t) (a .stride) i j && not (eqb i t)) && denseBits (noted a work j t) (a .stride) t c)
+        → rows a marked i c ≡ xor (rows a noted i c) ((rows a noted i j && not (eqb i pivot)) && rows a noted pivot c)
     marked-bits i h c g =
-        rows-same later (marked a later t) (a .stride) (a .checks) (a .marks) (l .rows-end)
-        (λ q b. getD-set-other later (a .marks + t) q 1 0 (λ f. omega arith)) i h c (in-row (a .gross) (a .stride) c (l .wide) g)
+        rows-kept l later marked (a .marks) (l .rows-end) (λ q b. getD-set-other later (a .marks + pivot) q 1 0 (λ f. omega arith)) i h c g
         ∙ d .bits i h c g
 
     -- behind the rows only the mark is changed
-    beyond : (i : ℕ) → a .marks ≤ i → (i ≡ a .marks + t → ⊥) → getD (marked a later t) i 0 ≡ getD (noted a work j t) i 0
-    beyond i h other = getD-set-other later (a .marks + t) i 1 0 other ∙ d .changed .behind i (omega (arith, l .rows-end))
+    beyond : (i : ℕ) → a .marks ≤ i → (i ≡ a .marks + pivot → ⊥) → getD marked i 0 ≡ getD noted i 0
+    beyond i h other = getD-set-other later (a .marks + pivot) i 1 0 other ∙ d .changed .behind i (omega (arith, l .rows-end))
 
-    marked-used : (i : ℕ) → i < a .checks → isUsed a (marked a later t) i ≡ (eqb i t || isUsed a (noted a work j t) i)
+    -- the mark of the pivot row
+    mark : getD marked (a .marks + pivot) 0 ≡ 1
+    mark = getD-set-same later (a .marks + pivot) 1 0 (omega (arith, marks-inside l, d .changed .long, noted-changed .long))
+
+    marked-used : (i : ℕ) → i < a .checks → isUsed a marked i ≡ (eqb i pivot || isUsed a noted i)
     marked-used i h =
-        elim (ℕ-discrete i t) [
+        elim (ℕ-discrete i pivot) [
           | yes same ↦
               rw same
-              (ap (λ (v : ℕ). not (eqb v 0))
-              (getD-set-same later (a .marks + t) 1 0
-              (omega (arith, l .marks-end, l .word-end, l .numbers-end, l .message-end, d .changed .long, noted-changed .long)))
-              ∙ sym (ap (λ (b : Bool). b || isUsed a (noted a work j t) t) (eq-eqb t t refl)))
+              (ap (λ (v : ℕ). not (eqb v 0)) mark ∙ sym (ap (λ (b : Bool). b || isUsed a noted pivot) (eq-eqb pivot pivot refl)))
           | no other ↦
               ap (λ (v : ℕ). not (eqb v 0)) (beyond (a .marks + i) (omega arith) (λ f. other (omega arith)))
-              ∙ sym (ap (λ (b : Bool). b || isUsed a (noted a work j t) i) (ne-eqb i t other))
+              ∙ sym (ap (λ (b : Bool). b || isUsed a noted i) (ne-eqb i pivot other))
         ]
 
     -- the numbers stay
-    marked-row : (c : ℕ) → rowOf a (marked a later t) c ≡ rowOf a (noted a work j t) c
+    marked-row : (c : ℕ) → rowOf a marked c ≡ rowOf a noted c
     marked-row c =
-        let behind : a .marks + t < a .numbers = omega (arith, l .marks-end, l .word-end) in
-        number-same (noted a work j t) (marked a later t) (a .numbers + 2 * c)
+        let behind : a .marks + pivot < a .numbers = omega (arith, l .marks-end, l .word-end) in
+        number-same noted marked (a .numbers + 2 * c)
         (beyond (a .numbers + 2 * c) (omega arith) (λ f. omega arith)) (beyond (a .numbers + 2 * c + 1) (omega arith) (λ f. omega arith))
 
-    pub check-step : Eliminating a m j before (set later (a .marks + t) 1)
+    pub check-step : Eliminating a j before (set later (a .marks + pivot) 1)
     check-step =
         record {
-          most = omega (arith, e .most);
+          left = omega (arith, e .left);
           changed =
               both-front (both-front noted-changed (d .changed) (omega (arith, l .rows-end)) (omega (arith, l .marks-end, l .word-end)))
-              (changed-set (changed-none (a .marks) (a .marks + a .checks) later) (a .marks + t) 1 (omega arith) (omega arith)) (omega arith)
-              (omega (arith, l .marks-end, l .word-end));
+              (changed-set (changed-none (a .marks) (a .marks + a .checks) later) (a .marks + pivot) 1 (omega arith) (omega arith))
+              (omega arith) (omega (arith, l .marks-end, l .word-end));
           whole = record {
-            reduced = pivot-step (a .checks) (a .gross) m (isCheck a m) (denseBits (noted a work j t) (a .stride))
-                (isUsed a (noted a work j t)) (rowOf a (noted a work j t)) j (omega (arith, e .most)) noted-inv check-column t less unused one
-                (denseBits (marked a later t) (a .stride)) (isUsed a (marked a later t)) (rowOf a (marked a later t))
-                marked-bits marked-used (λ c h g. marked-row c) (marked-row j ∙ noted-row);
+            reduced = pivot-step (a .checks) (a .gross) m (isCheck a m) (rows a noted) (isUsed a noted) (rowOf a noted)
+                j (omega (arith, e .left)) noted-inv check-column pivot less unused one
+                (rows a marked) (isUsed a marked) (rowOf a marked) marked-bits marked-used (λ c h g. marked-row c) (marked-row j ∙ noted-row);
             judged = λ c h g.
                 elim (ℕ-discrete c j) [
-                  | yes same ↦
-                      rw same (lt-ltb (rowOf a (marked a later t) j) (a .checks) (omega (arith, marked-row j, noted-row)) ∙ sym check-column)
+                  | yes same ↦ rw same (lt-ltb (rowOf a marked j) (a .checks) (omega (arith, marked-row j, noted-row)) ∙ sym check-column)
                   | no other ↦ ap (λ (x : ℕ). ltb x (a .checks)) (marked-row c) ∙ noted-judged c (omega arith) g
+                ];
+            most = λ c h g. omega (arith, marked-row c, noted-most c h g);
+            marks = λ i h.
+                elim (ℕ-discrete i pivot) [
+                  | yes same ↦ rw same (omega (arith, mark))
+                  | no other ↦ omega (arith, beyond (a .marks + i) (omega arith) (λ f. other (omega arith)), noted-marks i h)
                 ];
           };
         }

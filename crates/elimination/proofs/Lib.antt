@@ -1,2 +1,2 @@
-pub mod Cleared
-pub mod Eliminated
+mod Cleared
+mod Eliminated

@@ -17,35 +17,40 @@ use Rattle.dense.specs.Dense.{denseBits}
 abbrev pub isFree : Areas → List ℕ → ℕ → ℕ → Bool
 isFree a work j i = eqb (getD work (a .marks + i) 0) 0 && denseBits work (a .stride) i j
 
--- row i serves a check column
+-- row i is the pivot row of a check column
 abbrev pub isUsed : Areas → List ℕ → ℕ → Bool
 isUsed a work i = not (eqb (getD work (a .marks + i) 0) 0)
 
--- the row that serves column c, or the number of rows
+-- the pivot row of column c, or the number of rows
 abbrev pub rowOf : Areas → List ℕ → ℕ → ℕ
 rowOf a work c = numberAt work (a .numbers + 2 * c)
 
--- row t is added to every other row that has a 1 in column j
-pub record ColumnCleared (a : Areas) (t j : ℕ) (before after : List ℕ) : Type 0 where
+-- the row `pivot` is added to every other row that has a 1 in column j
+pub record ColumnCleared (a : Areas) (pivot j : ℕ) (before after : List ℕ) : Type 0 where
   pub changed : ChangedIn 0 (a .checks * a .stride) before after
   pub bits : (i : ℕ)
       → i < a .checks
       → (c : ℕ)
       → c < a .gross
       → denseBits after (a .stride) i c
-      ≡ xor (denseBits before (a .stride) i c) ((denseBits before (a .stride) i j && not (eqb i t)) && denseBits before (a .stride) t c)
+      ≡ xor (denseBits before (a .stride) i c)
+      ((denseBits before (a .stride) i j && not (eqb i pivot)) && denseBits before (a .stride) pivot c)
 
--- The columns from j on of the matrix m are eliminated in the buffer, and a column from j on has the number of rows for its row exactly
--- where it is no check column of m.
+-- The columns from j on of the matrix m are eliminated in the buffer. A column from j on has a pivot row exactly where it is a check
+-- column of m, and the number of rows where it is none; a mark is 1 for a pivot row and 0 else. The papers leave open which row is the
+-- pivot row of a check column, what the rows become and what stands past the last column: of these it is said what solving needs, the
+-- law `Inv`.
 pub record EliminatedFrom (a : Areas) (m : BitMatrix) (j : ℕ) (work : List ℕ) : Type 0 where
   pub reduced : Inv (a .checks) (a .gross) m (isCheckColumn (a .checks) (a .gross) m)
       (denseBits work (a .stride)) (isUsed a work) (rowOf a work) j
   pub judged : (c : ℕ) → j ≤ c → c < a .gross → ltb (rowOf a work c) (a .checks) ≡ isCheckColumn (a .checks) (a .gross) m c
+  pub most : (c : ℕ) → j ≤ c → c < a .gross → rowOf a work c ≤ a .checks
+  pub marks : (i : ℕ) → i < a .checks → getD work (a .marks + i) 0 ≤ 1
 
--- All columns are eliminated; only rows, marks and numbers are changed.
-pub record Eliminated (a : Areas) (m : BitMatrix) (before after : List ℕ) : Type 0 where
+-- All columns of the matrix in the buffer are eliminated; only rows, marks and numbers are changed.
+pub record Eliminated (a : Areas) (before after : List ℕ) : Type 0 where
   pub changed : ChangedInBoth (a .marks + a .checks) (a .numbers) (a .numbers + 2 * a .gross) before after
-  pub whole : EliminatedFrom a m 0 after
+  pub whole : EliminatedFrom a (denseBits before (a .stride)) 0 after
 
 -- the buffer holds the elimination of some matrix
 pub record HoldsElimination (a : Areas) (work : List ℕ) : Type 0 where

@@ -62,66 +62,48 @@ summed-next {work} {k} {marks} {n} {i} s l b =
 -- ---- the checks that a bit stands in, as a loop counts them
 
 -- the first i of k checks are passed, of which bit j stands in so many unmet and met ones
-pub record Passed (work : List ℕ) (k stride marks j unmets mets i : ℕ) : Type 0 where
+pub record Passed (work : List ℕ) (k stride marks j unmetSoFar metSoFar i : ℕ) : Type 0 where
   pub most : i ≤ k
-  pub few : unmets + mets ≤ i
-  pub unmets-are : unmets ≡ unmetWith work stride marks j i
-  pub mets-are : mets ≡ metWith work stride marks j i
+  pub few : unmetSoFar + metSoFar ≤ i
+  pub unmet-is : unmetSoFar ≡ unmetWith work stride marks j i
+  pub met-is : metSoFar ≡ metWith work stride marks j i
 
 pub passed-start : (work : List ℕ) (k stride marks j : ℕ) → Passed work k stride marks j 0 0 0
 unfolding unmetWith metWith
-passed-start work k stride marks j = record { most = omega arith; few = omega arith; unmets-are = refl; mets-are = refl }
+passed-start work k stride marks j = record { most = omega arith; few = omega arith; unmet-is = refl; met-is = refl }
 
-module _ {work : List ℕ} {k stride marks j unmets mets i : ℕ} (s : Passed work k stride marks j unmets mets i) where
-  -- the bit stands in an unmet check
-  pub passed-unmet : {u m : ℕ} → i < k → denseBits work stride i j ≡ true → getD work (marks + i) 0 ≡ 1 → u ≡ unmets + 1 → m ≡ mets
+-- a check is counted once at most
+counted-once : (t : Bool) (mark : ℕ) → mark ≤ 1 → cond t mark 0 + cond t (1 - mark) 0 ≤ 1
+counted-once true mark h = omega arith
+counted-once false mark h = omega arith
+
+module _ {work : List ℕ} {k stride marks j unmetSoFar metSoFar i : ℕ} (s : Passed work k stride marks j unmetSoFar metSoFar i) where
+  -- one more check is passed, counted by its mark where the bit stands in it
+  pub passed-next : {u m : ℕ} {t : Bool} → i < k → getD work (marks + i) 0 ≤ 1 → denseBits work stride i j ≡ t
+      → u ≡ unmetSoFar + cond t (getD work (marks + i) 0) 0 → m ≡ metSoFar + cond t (1 - getD work (marks + i) 0) 0
       → Passed work k stride marks j u m (i + 1)
   unfolding unmetWith metWith
-  passed-unmet l e b p q =
+  passed-next {t = t} l b e p q =
       record {
         most = omega arith;
-        few = omega (arith, s .few);
-        unmets-are = rw (add-one i, e) (omega (arith, s .unmets-are));
-        mets-are = rw (add-one i, e) (omega (arith, s .mets-are));
-      }
-
-  -- it stands in a met one
-  pub passed-met : {u m : ℕ} → i < k → denseBits work stride i j ≡ true → getD work (marks + i) 0 ≡ 0 → u ≡ unmets → m ≡ mets + 1
-      → Passed work k stride marks j u m (i + 1)
-  unfolding unmetWith metWith
-  passed-met l e b p q =
-      record {
-        most = omega arith;
-        few = omega (arith, s .few);
-        unmets-are = rw (add-one i, e) (omega (arith, s .unmets-are));
-        mets-are = rw (add-one i, e) (omega (arith, s .mets-are));
-      }
-
-  -- it does not stand in the check
-  pub passed-other : {u m : ℕ} → i < k → denseBits work stride i j ≡ false → u ≡ unmets → m ≡ mets
-      → Passed work k stride marks j u m (i + 1)
-  unfolding unmetWith metWith
-  passed-other l e p q =
-      record {
-        most = omega arith;
-        few = omega (arith, s .few);
-        unmets-are = rw (add-one i, e) (omega (arith, s .unmets-are));
-        mets-are = rw (add-one i, e) (omega (arith, s .mets-are));
+        few = omega (arith, s .few, counted-once t (getD work (marks + i) 0) b);
+        unmet-is = rw (add-one i, e) (omega (arith, s .unmet-is));
+        met-is = rw (add-one i, e) (omega (arith, s .met-is));
       }
 
   -- all checks are passed: the bit stands in more unmet than met ones
-  pub passed-suspect : i ≡ k → mets < unmets → suspectBy work k stride marks j ≡ true
+  pub passed-suspect : i ≡ k → metSoFar < unmetSoFar → suspectBy work k stride marks j ≡ true
   unfolding suspectBy
   passed-suspect e h =
       lt-ltb (metWith work stride marks j k) (unmetWith work stride marks j k)
-      (rw (← e) (omega (arith, s .unmets-are, s .mets-are)))
+      (rw (← e) (omega (arith, s .unmet-is, s .met-is)))
 
   -- all checks are passed: it does not
-  pub passed-unsuspected : i ≡ k → unmets ≤ mets → suspectBy work k stride marks j ≡ false
+  pub passed-unsuspected : i ≡ k → unmetSoFar ≤ metSoFar → suspectBy work k stride marks j ≡ false
   unfolding suspectBy
   passed-unsuspected e h =
       le-ltb (metWith work stride marks j k) (unmetWith work stride marks j k)
-      (rw (← e) (omega (arith, s .unmets-are, s .mets-are)))
+      (rw (← e) (omega (arith, s .unmet-is, s .met-is)))
 
 -- ---- the counts are those of the rule
 
@@ -159,32 +141,32 @@ module _ (a : Areas) (work : List ℕ) (marked : Marked a work) where
   mark-bit i h = omega (arith, marked i h, unmet-bit (checkOf (a .gross) (denseBits work (a .stride)) i) (wordIn a work))
 
   module _ (j : ℕ) (inside : j < a .gross) where
-    unmets-to : (i : ℕ) → i ≤ a .checks
+    unmet-to : (i : ℕ) → i ≤ a .checks
         → unmetWith work (a .stride) (a .marks) j i ≡ unmetAt (checksOf i (a .gross) (denseBits work (a .stride))) (wordIn a work) j
     unfolding unmetWith checksOf checkOf tabulate unmetAt
-    unmets-to zero h = refl
-    unmets-to (suc i) h =
+    unmet-to zero h = refl
+    unmet-to (suc i) h =
         let c : List ℕ = those (a .gross) (denseBits work (a .stride) i) in
         let cs : List (List ℕ) = tabulate i (checkOf (a .gross) (denseBits work (a .stride))) in
-        ap₂ _+_ (unmets-to i (omega arith))
+        ap₂ _+_ (unmet-to i (omega arith))
         (ap₂ (λ (t : Bool) (x : ℕ). cond t x 0) (sym (has-those (denseBits work (a .stride) i) (a .gross) j inside)) (marked i (omega arith)))
         ∙ sym (unmetAt-snoc cs c (wordIn a work) j)
 
-    mets-to : (i : ℕ) → i ≤ a .checks
+    met-to : (i : ℕ) → i ≤ a .checks
         → metWith work (a .stride) (a .marks) j i ≡ metAt (checksOf i (a .gross) (denseBits work (a .stride))) (wordIn a work) j
     unfolding metWith checksOf checkOf tabulate metAt
-    mets-to zero h = refl
-    mets-to (suc i) h =
+    met-to zero h = refl
+    met-to (suc i) h =
         let c : List ℕ = those (a .gross) (denseBits work (a .stride) i) in
         let cs : List (List ℕ) = tabulate i (checkOf (a .gross) (denseBits work (a .stride))) in
-        ap₂ _+_ (mets-to i (omega arith))
+        ap₂ _+_ (met-to i (omega arith))
         (ap₂ (λ (t : Bool) (x : ℕ). cond t (1 - x) 0) (sym (has-those (denseBits work (a .stride) i) (a .gross) j inside)) (marked i (omega arith)))
         ∙ sym (metAt-snoc cs c (wordIn a work) j)
 
     -- A bit is suspect by the marks exactly where it is.
     suspect-same : suspectBy work (a .checks) (a .stride) (a .marks) j ≡ isSuspect (checksIn a work) (wordIn a work) j
     unfolding suspectBy isSuspect
-    suspect-same = ap₂ ltb (mets-to (a .checks) (omega arith)) (unmets-to (a .checks) (omega arith))
+    suspect-same = ap₂ ltb (met-to (a .checks) (omega arith)) (unmet-to (a .checks) (omega arith))
 
   -- The lowest suspect bit by the marks is that of the rule.
   pub suspect-by : Laid a (length work)

@@ -1,50 +1,35 @@
 -- The marks of the checks in the work buffer: set one after the other, turned one after the other, and kept up to date where a bit
 -- of the word is turned.
 -- Assumes nothing.
-use Prim.Native.Nat.{ℕ, _+_, _*_, _/_, _-_, _≤_, _<_}
-use mathlib.Core.Path.{_≡_, refl, sym, ap, ap₂, _∙_, subst}
+use Prim.Native.Nat.{ℕ, _+_, _-_, _≤_, _<_}
+use mathlib.Core.Path.{_≡_, refl, sym, ap, ap₂, _∙_}
 use mathlib.Core.Bool.{Bool, true, false, cond}
-use mathlib.Core.List.{List, []}
+use mathlib.Core.List.{List}
 use native.Mathlib.Decide.{ℕ-discrete}
 use native.Mathlib.Omega.{arith}
 use lib.ListN.{length, getD, set}
 use lib.Seq.{getD-set-same, getD-set-other}
-use Rattle.symbology.specs.Ranges.{has}
-use Rattle.symbology.specs.Matrix.{checkOf, checksOf}
+use Rattle.symbology.specs.Ranges.{those, has}
+use Rattle.symbology.specs.Matrix.{checkOf}
 use Rattle.symbology.specs.Rule.{unmet, turned}
-use Rattle.laws.proofs.Ranges.{those-ext, has-those, getD-tabulate}
-use Rattle.laws.proofs.Rule.{Once, checks-once, length-turned, turned-there, turned-elsewhere, unmet-change}
+use Rattle.laws.proofs.Ranges.{those-ext, has-those}
+use Rattle.laws.proofs.Rule.{once-those, length-turned, turned-there, turned-elsewhere, unmet-change}
 use Rattle.lent.specs.declared.Areas.{Areas}
 use Rattle.lent.specs.Buffer.{part, ChangedIn, Laid}
-use Rattle.lent.proofs.Buffer.{length-part, part-at, part-is, part-same, changed-none, changed-set, changed-then}
+use Rattle.lent.proofs.Buffer.{length-part, part-at, part-is, part-same, changed-none, changed-wider, changed-set}
 use Rattle.dense.specs.Dense.{denseBits}
-use Rattle.dense.proofs.Dense.{row-gap, in-row, rows-same}
+use Rattle.dense.proofs.Dense.{rows-kept}
 use Rattle.mending.specs.Marks.{wordIn, BitsIn, Marked, WordMarked, MarksTurned, BitTurned}
 
--- ---- rows in front of the marks
+-- ---- checks kept
 
-module _ {a : Areas} {room : ℕ} (laid : Laid a room) where
-  -- a row lies in front of the marks
-  pub row-inside : (i : ℕ) → i < a .checks → i * a .stride + a .stride ≤ a .marks
-  row-inside i h = omega (arith, row-gap i (a .checks) (a .stride) h)
-
-  -- the byte of a bit lies in front of the marks
-  pub bit-inside : (i j : ℕ) → i < a .checks → j < a .gross → i * a .stride + j / 8 < a .marks
-  bit-inside i j h l = omega (arith, row-inside i h, in-row (a .gross) (a .stride) j (laid .wide) l)
-
-  module _ {to : ℕ} {before after : List ℕ} (c : ChangedIn (a .marks) to before after) where
-    -- The bits of the rows are kept.
-    pub bits-kept : (i : ℕ) → i < a .checks → (j : ℕ) → j < a .gross
-        → denseBits after (a .stride) i j ≡ denseBits before (a .stride) i j
-    bits-kept i h j l =
-        rows-same before after (a .stride) (a .checks) (a .marks) (laid .rows-end) (c .front) i h j
-        (in-row (a .gross) (a .stride) j (laid .wide) l)
-
-    -- The check of a row is kept.
-    pub check-kept : (i : ℕ) → i < a .checks
-        → checkOf (a .gross) (denseBits after (a .stride)) i ≡ checkOf (a .gross) (denseBits before (a .stride)) i
-    unfolding checkOf
-    check-kept i h = those-ext (a .gross) (denseBits after (a .stride) i) (denseBits before (a .stride) i) (bits-kept i h)
+-- The check of a row is kept where all in front of the marks is.
+check-kept : {a : Areas} {room to : ℕ} {before after : List ℕ} → Laid a room → ChangedIn (a .marks) to before after → (i : ℕ) → i < a .checks
+    → checkOf (a .gross) (denseBits after (a .stride)) i ≡ checkOf (a .gross) (denseBits before (a .stride)) i
+unfolding checkOf
+check-kept {a} {before = before} {after = after} laid c i h =
+    those-ext (a .gross) (denseBits after (a .stride) i) (denseBits before (a .stride) i)
+    (rows-kept laid before after (a .marks) (laid .rows-end) (c .front) i h)
 
 -- ---- marks set
 
@@ -152,12 +137,6 @@ turned-all t = record { changed = t .changed; turns = t .done }
 
 -- ---- a bit of the word turned, with the marks of its checks
 
-once-check : (a : Areas) (work : List ℕ) (i : ℕ) → i < a .checks → Once (checkOf (a .gross) (denseBits work (a .stride)) i)
-unfolding checksOf
-once-check a work i h =
-    subst Once (getD-tabulate (a .checks) (checkOf (a .gross) (denseBits work (a .stride))) [] i h)
-    (checks-once (a .checks) (a .gross) (denseBits work (a .stride)) i)
-
 -- whether a check is unmet changes as its mark does
 mark-change : (t : Bool) (now later : ℕ) → later + cond t now 0 ≡ now + cond t (1 - now) 0 → later ≡ cond t (1 - now) now
 mark-change true now later e = omega arith
@@ -176,8 +155,7 @@ bit-turned {a} {j} {before} {middle} laid bits marked inside t =
     let v : ℕ = 1 - getD middle (a .word + j) 0 in
     let after : List ℕ = set middle (a .word + j) v in
     let w : List ℕ = wordIn a before in
-    let wide : ChangedIn (a .marks) (a .word + a .gross) before middle =
-    changed-then (changed-none (a .marks) (a .word + a .gross) before) (t .changed) (omega arith) (omega arith) in
+    let wide : ChangedIn (a .marks) (a .word + a .gross) before middle = changed-wider (t .changed) (omega arith) (omega arith) in
     let changes : ChangedIn (a .marks) (a .word + a .gross) before after = changed-set wide (a .word + j) v (omega arith) (omega arith) in
     let long : length w ≡ a .gross = length-part before (a .word) (a .gross) (omega arith) in
     let new : wordIn a after ≡ turned w j =
@@ -196,12 +174,12 @@ bit-turned {a} {j} {before} {middle} laid bits marked inside t =
       word-is = new;
       marked = λ i h.
           let f : ℕ → Bool = denseBits before (a .stride) i in
-          let c : List ℕ = checkOf (a .gross) (denseBits before (a .stride)) i in
+          let c : List ℕ = those (a .gross) f in
           let there : has j c ≡ f j = has-those f (a .gross) j inside in
           getD-set-other middle (a .word + j) (a .marks + i) v 0 (λ e. omega arith)
           ∙ t .turns i h
           ∙ ap (λ (x : ℕ). cond (f j) (1 - x) x) (marked i h)
           ∙ sym (mark-change (f j) (unmet c w) (unmet c (turned w j))
-          (rw there at (unmet-change c w j (once-check a before i h) bits (omega arith))))
+          (rw there at (unmet-change c w j (once-those (a .gross) f) bits (omega arith))))
           ∙ sym (ap₂ unmet (check-kept laid changes i h) new);
     }

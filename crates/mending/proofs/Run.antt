@@ -19,11 +19,12 @@ use Rattle.laws.proofs.Steps.{run-ends, run-goes}
 use Rattle.laws.proofs.Agree.{checks-same}
 use Rattle.lent.specs.declared.Areas.{Areas}
 use Rattle.lent.specs.Buffer.{ChangedIn, Laid}
-use Rattle.lent.proofs.Buffer.{length-part, changed-none, changed-then}
+use Rattle.lent.proofs.Buffer.{length-part, changed-none, changed-wider, changed-then, laid-as}
 use Rattle.dense.specs.Dense.{denseBits}
+use Rattle.dense.proofs.Dense.{rows-kept}
 use Rattle.mending.specs.Marks.{wordIn, checksIn, BitsIn, Marked, WordMarked, BitTurned, MendedBy}
 use Rattle.mending.proofs.Counts.{unmet-bit}
-use Rattle.mending.proofs.Marks.{bits-kept, word-kept}
+use Rattle.mending.proofs.Marks.{word-kept}
 
 -- ---- over words
 
@@ -40,16 +41,16 @@ unfolding ends
 goes-on cs w h g = rw (ne-eqb (unmetCount cs w) 0 (λ e. omega arith), ne-eqb (suspect cs w) (length w) (λ e. omega arith)) refl
 
 module _ {cs : List (List ℕ)} {from now : List ℕ} {left repairs : ℕ} (r : RunTo cs from now left repairs) where
-  -- the suspect bit is turned: fewer checks are unmet
-  run-next : {later : List ℕ} {fewer next : ℕ} → AllOnce cs → 0 < left → suspect cs now < length now
-      → later ≡ turned now (suspect cs now) → fewer ≡ unmetCount cs later → next ≡ repairs + 1
-      → RunTo cs from later fewer next × (fewer < left)
-  run-next {later} once h inside e f g =
+  -- The suspect bit is turned: fewer checks are unmet, so that some were.
+  run-next : {later : List ℕ} {fewer : ℕ} → AllOnce cs → suspect cs now < length now
+      → later ≡ turned now (suspect cs now) → fewer ≡ unmetCount cs later
+      → RunTo cs from later fewer (repairs + 1) × (fewer < left)
+  run-next {later} once inside e f =
       let j : ℕ = suspect cs now in
       let less : unmetCount cs later < unmetCount cs now =
       rw e (step-lowers cs now j once (r .bits) inside (suspect-lowest cs now inside .suspected)) in
       let more : (repairsOf cs now ≡ j ∷ repairsOf cs later) × (lastWord cs now ≡ lastWord cs later) =
-      rw e (run-goes cs now once (r .bits) (goes-on cs now (omega (arith, r .left-is)) inside)) in
+      rw e (run-goes cs now once (r .bits) (goes-on cs now (omega arith) inside)) in
       let one : length (repairsOf cs now) ≡ suc (length (repairsOf cs later)) = ap length (more .0) in (
         record {
           bits = subst⁻¹ AllBits e (turned-bits now j (r .bits));
@@ -84,12 +85,8 @@ count-few k n a w = omega (arith, count-length (checksOf k n a) w, length-tabula
 checks-kept : {a : Areas} {room to : ℕ} {before after : List ℕ} → Laid a room → ChangedIn (a .marks) to before after
     → checksIn a after ≡ checksIn a before
 checks-kept {a} {before = before} {after = after} laid c =
-    checks-same (a .checks) (a .gross) (denseBits after (a .stride)) (denseBits before (a .stride)) (bits-kept laid c)
-
--- the areas lie in the buffer as before
-pub laid-kept : {a : Areas} {from to : ℕ} {before after : List ℕ} → ChangedIn from to before after → Laid a (length before)
-    → Laid a (length after)
-laid-kept {a} c laid = subst⁻¹ (Laid a) (c .long) laid
+    checks-same (a .checks) (a .gross) (denseBits after (a .stride)) (denseBits before (a .stride))
+    (rows-kept laid before after (a .marks) (laid .rows-end) (c .front))
 
 -- the run over the buffer, from its marked state on
 pub record MendedTo (a : Areas) (start work : List ℕ) (left repairs : ℕ) : Type 0 where
@@ -103,7 +100,7 @@ pub mended-start : {a : Areas} {before start : List ℕ} {left : ℕ} → Laid a
     → left ≡ unmetCount (checksIn a start) (wordIn a start) → MendedTo a start start left 0
 mended-start {a} {start = start} laid bits m e =
     record {
-      laid = laid-kept (m .changed) laid;
+      laid = laid-as laid (m .changed .long);
       changed = changed-none (a .marks) (a .word + a .gross) start;
       marked = m .marked;
       run = record {
@@ -123,24 +120,24 @@ module _ {a : Areas} {start work : List ℕ} {left repairs : ℕ} (m : MendedTo 
   pub suspect-most : {j : ℕ} → j ≡ suspect (checksIn a work) (wordIn a work) → j ≤ a .gross
   suspect-most e = omega (arith, suspect-to (checksIn a work) (wordIn a work), long)
 
-  -- while a check is unmet, the repairs are fewer than the checks that there can be
-  pub repairs-few : 0 < left → repairs < 4096
-  repairs-few h =
+  -- there are no more repairs than there can be checks
+  pub repairs-few : repairs ≤ 4096
+  repairs-few =
       omega (arith, m .laid, m .run .bounded, count-few (a .checks) (a .gross) (denseBits start (a .stride)) (wordIn a start))
 
   -- the suspect bit is turned: fewer checks are unmet
-  pub mended-next : {j fewer next : ℕ} {later : List ℕ} → 0 < left → j < a .gross → j ≡ suspect (checksIn a work) (wordIn a work)
-      → BitTurned a j work later → fewer ≡ unmetCount (checksIn a later) (wordIn a later) → next ≡ repairs + 1
-      → MendedTo a start later fewer next × (fewer < left)
-  mended-next {j} {later = later} h inside e t f g =
+  pub mended-next : {j fewer : ℕ} {later : List ℕ} → j < a .gross → j ≡ suspect (checksIn a work) (wordIn a work)
+      → BitTurned a j work later → fewer ≡ unmetCount (checksIn a later) (wordIn a later)
+      → MendedTo a start later fewer (repairs + 1) × (fewer < left)
+  mended-next {j} {later = later} inside e t f =
       let w : List ℕ = wordIn a work in
       let changes : ChangedIn (a .marks) (a .word + a .gross) start later = changed-then (m .changed) (t .changed) (omega arith) (omega arith) in
       let found : j ≡ suspect (checksIn a start) w = e ∙ ap (λ (cs : List (List ℕ)). suspect cs w) (checks-kept (m .laid) (m .changed)) in
       let goes = run-next (m .run) (checks-once (a .checks) (a .gross) (denseBits start (a .stride)))
-      h (omega (arith, found, long))
+      (omega (arith, found, long))
       (t .word-is ∙ ap (turned w) found)
-      (f ∙ ap (λ (cs : List (List ℕ)). unmetCount cs (wordIn a later)) (checks-kept (m .laid) changes)) g in
-      (record { laid = laid-kept (t .changed) (m .laid); changed = changes; marked = t .marked; run = goes .0 }, goes .1)
+      (f ∙ ap (λ (cs : List (List ℕ)). unmetCount cs (wordIn a later)) (checks-kept (m .laid) changes)) in
+      (record { laid = laid-as (m .laid) (t .changed .long); changed = changes; marked = t .marked; run = goes .0 }, goes .1)
 
   -- the rule ends: no check is unmet, or no bit is suspect
   pub mended-all : {before : List ℕ} {first : ℕ} → Laid a (length before) → WordMarked a before start
@@ -158,8 +155,7 @@ module _ {a : Areas} {start work : List ℕ} {left repairs : ℕ} (m : MendedTo 
       (λ none. inr (suspect-none cs w (sym (ap (λ (c : List (List ℕ)). suspect c w) same) ∙ none ∙ sym long))) over in
       let done : (w ≡ lastWord cs (wordIn a start)) × (repairs ≡ length (repairsOf cs (wordIn a start))) = run-done (m .run) ended in
       record {
-        changed = changed-then (changed-then (changed-none (a .marks) (a .word + a .gross) before) (k .changed) (omega arith) (omega arith))
-            (m .changed) (omega arith) (omega arith);
+        changed = changed-then (changed-wider (k .changed) (omega arith) (omega arith)) (m .changed) (omega arith) (omega arith);
         word-is = done .0 ∙ ap₂ lastWord checks word;
         repairs-are = done .1 ∙ ap₂ (λ (c : List (List ℕ)) (v : List ℕ). length (repairsOf c v)) checks word;
         first-is = e ∙ ap₂ unmetCount checks word;

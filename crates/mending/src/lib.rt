@@ -1,8 +1,8 @@
 // Document 01's mending rule over dense rows in the work buffer: while some check is unmet, the
 // lowest-numbered bit that stands in more unmet than met checks is turned. Each check has a mark, 1
-// where it is unmet, which is kept up to date from step to step.
+// where it is unmet, which is kept up to date from step to step. The marks are the syndrome of the word.
 use lent::Areas;
-ghost use Prim.Native.Nat.{_+_, _<_};
+ghost use Prim.Native.Nat.{_<_};
 ghost use mathlib.Core.Path.{_≡_};
 ghost use lib.ListN.{length};
 ghost use Rattle.lent.specs.Buffer.{Laid};
@@ -103,15 +103,14 @@ fn turn_marks(work: &mut [u8], a: Areas, j: usize)
     }
 }
 
-// One step of the rule: turns bit j, with the marks of its checks, and counts it.
-fn step(work: &mut [u8], a: Areas, j: usize, repairs: usize) -> usize
-    requires { ⌜ Laid a (length (now work)) × BitsIn a (now work) × Marked a (now work) × (j < a .gross) × (repairs < 4096) ⌝ }
-    ensures { λ r. ⌜ (r ≡ repairs + 1) × BitTurned a j (now (work .entry)) (now (work .exit)) ⌝ }
+// Turns bit j of the word, with the marks of its checks.
+fn turn_bit(work: &mut [u8], a: Areas, j: usize)
+    requires { ⌜ Laid a (length (now work)) × BitsIn a (now work) × Marked a (now work) × (j < a .gross) ⌝ }
+    ensures { λ _. ⌜ BitTurned a j (now (work .entry)) (now (work .exit)) ⌝ }
 {
     turn_marks(work, a, j);
     let at = a.word + j;
     work[at] = 1 - work[at];
-    repairs + 1
 }
 
 // Mends the word by the rule, run to its end.
@@ -121,15 +120,15 @@ pub fn mend(work: &mut [u8], a: Areas) -> Mended
 {
     mark_checks(work, a);
     let first = count_unmet(work, a);
-    let n = a.gross;
     let mut left = first;
-    let mut repairs = 0;
+    let mut repairs = 0usize;
     while 0 < left {
         let j = find_suspect(work, a);
-        if j == n {
+        if j == a.gross {
             break;
         }
-        repairs = step(work, a, j, repairs);
+        turn_bit(work, a, j);
+        repairs += 1;
         left = count_unmet(work, a);
     }
     Mended {

@@ -5,8 +5,8 @@ use mathlib.Core.Bool.{Bool}
 use mathlib.Core.Logic.{⊎-elim}
 use native.Mathlib.Omega.{arith}
 use Rattle.laws.proofs.Search.{SearchFrom, search-start, search-next, search-found, search-none}
-use Rattle.mending.proofs.Counts.{suspectBy, Passed, passed-start, passed-unmet, passed-met, passed-other, passed-suspect, passed-unsuspected, mark-bit, suspect-by}
-use Rattle.mending.proofs.Marks.{bit-inside}
+use Rattle.dense.proofs.Dense.{bit-inside}
+use Rattle.mending.proofs.Counts.{suspectBy, Passed, passed-start, passed-next, passed-suspect, passed-unsuspected, mark-bit, suspect-by}
 use Rattle.mending.proofs.find_suspect.Statement.{statement}
 use Rattle.mending.proofs.find_suspect.Tie as tie
 
@@ -60,10 +60,17 @@ loop-again c =
     let args = c .before .before .before .before .before .before .before .args in
     let pre = c .before .before .before .before .before .before .before .pre in
     let loop = c .before .before .before .loop in
-    let bit = mark-bit (args .a) (args .work .now) (pre .1) (loop .i) (omega arith) in
-    ⊎-elim (λ way. passed-unmet (loop .inv) (omega arith) (sym (c .before .bit .ensures) ∙ way .0 .taken) (way .2 .taken) (way .3) (way .4))
-    (⊎-elim (λ way. passed-met (loop .inv) (omega arith) (sym (c .before .bit .ensures) ∙ way .0 .taken) (omega (arith, bit, way .2 .left)) (way .3) (way .4))
-    (λ way. passed-other (loop .inv) (omega arith) (sym (c .before .bit .ensures) ∙ way .0 .left) (way .1) (way .2)))
+    let mark = mark-bit (args .a) (args .work .now) (pre .1) (loop .i) (omega arith) in
+    let bit = sym (c .before .bit .ensures) in
+    ⊎-elim
+    (λ way.
+    passed-next (loop .inv) (omega arith) mark (bit ∙ way .0 .taken)
+    (omega (arith, way .2 .taken, way .3)) (omega (arith, way .2 .taken, way .4)))
+    (⊎-elim
+    (λ way.
+    passed-next (loop .inv) (omega arith) mark (bit ∙ way .0 .taken)
+    (omega (arith, mark, way .2 .left, way .3)) (omega (arith, mark, way .2 .left, way .4)))
+    (λ way. passed-next (loop .inv) (omega arith) mark (bit ∙ way .0 .left) (omega (arith, way .1)) (omega (arith, way .2))))
     (c .if3 .came)
 
 add-j : tie.Need-add-j Inv-loop μ-loop Inv-bits μ-bits
@@ -77,14 +84,16 @@ bits-again c =
     let args = c .before .before .before .before .before .before .args in
     let bits = c .before .before .before .before .bits in
     let f : ℕ → Bool = suspectBy (args .work .now) (args .a .checks) (args .a .stride) (args .a .marks) in
-    search-next f (args .a .gross) (bits .j) (bits .inv) (omega arith) (passed-unsuspected (c .before .before .loop .inv) (omega arith) (omega arith))
+    let not-here = passed-unsuspected (c .before .before .loop .inv) (omega arith) (omega arith) in
+    search-next f (args .a .gross) (bits .j) (bits .inv) (omega arith) not-here
 
 returns : tie.Need-returns Inv-loop μ-loop Inv-bits μ-bits
 returns c =
     let args = c .before .before .before .args in
     let pre = c .before .before .before .pre in
     let f : ℕ → Bool = suspectBy (args .work .now) (args .a .checks) (args .a .stride) (args .a .marks) in
-    sym (search-none f (args .a .gross) (c .before .bits .j) (c .before .bits .inv) (omega arith)) ∙ suspect-by (args .a) (args .work .now) (pre .1) (pre .0)
+    sym (search-none f (args .a .gross) (c .before .bits .j) (c .before .bits .inv) (omega arith))
+    ∙ suspect-by (args .a) (args .work .now) (pre .1) (pre .0)
 
 returns-2 : tie.Need-returns-2 Inv-loop μ-loop Inv-bits μ-bits
 returns-2 c =
@@ -92,7 +101,8 @@ returns-2 c =
     let pre = c .before .before .before .before .before .before .pre in
     let bits = c .before .before .before .before .bits in
     let f : ℕ → Bool = suspectBy (args .work .now) (args .a .checks) (args .a .stride) (args .a .marks) in
-    sym (search-found f (args .a .gross) (bits .j) (bits .inv) (omega arith) (passed-suspect (c .before .before .loop .inv) (omega arith) (omega arith)))
+    let found = passed-suspect (c .before .before .loop .inv) (omega arith) (omega arith) in
+    sym (search-found f (args .a .gross) (bits .j) (bits .inv) (omega arith) found)
     ∙ suspect-by (args .a) (args .work .now) (pre .1) (pre .0)
 
 pub find-suspect-spec : {M : Type 1} → statement M

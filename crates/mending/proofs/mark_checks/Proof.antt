@@ -2,7 +2,8 @@
 use Prim.Native.Nat.{_-_}
 use mathlib.Core.Path.{_≡_}
 use native.Mathlib.Omega.{arith}
-use Rattle.mending.proofs.Marks.{row-inside, MarkedTo, marked-start, marked-next, marked-all}
+use Rattle.dense.proofs.Dense.{row-inside}
+use Rattle.mending.proofs.Marks.{MarkedTo, marked-start, marked-next, marked-all}
 use Rattle.mending.proofs.mark_checks.Statement.{statement}
 use Rattle.mending.proofs.mark_checks.Tie as tie
 
@@ -22,7 +23,7 @@ parity-requires c κs =
     let pre = c .before .before .before .before .pre in
     let loop = c .before .before .loop in
     let long = loop .inv .changed .long in
-    (pre .wide, omega (arith, long, row-inside (pre) (loop .i) (omega arith)), omega (arith, long))
+    (pre .wide, omega (arith, long, row-inside pre (loop .i) (omega arith)), omega (arith, long))
 
 add-work : tie.Need-add-work Inv-loop μ-loop
 add-work c = omega (arith, c .before .before .before .before .before .pre)

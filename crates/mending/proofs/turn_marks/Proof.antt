@@ -3,8 +3,9 @@ use Prim.Native.Nat.{_-_}
 use mathlib.Core.Path.{_≡_, sym, _∙_}
 use mathlib.Core.Logic.{⊎-elim}
 use native.Mathlib.Omega.{arith}
+use Rattle.dense.proofs.Dense.{bit-inside, marks-inside, rows-kept}
 use Rattle.mending.proofs.Counts.{mark-bit}
-use Rattle.mending.proofs.Marks.{bit-inside, bits-kept, TurnedTo, turned-start, turned-in, turned-out, turned-all}
+use Rattle.mending.proofs.Marks.{TurnedTo, turned-start, turned-in, turned-out, turned-all}
 use Rattle.mending.proofs.turn_marks.Statement.{statement}
 use Rattle.mending.proofs.turn_marks.Tie as tie
 
@@ -15,7 +16,9 @@ abbrev μ-loop : tie.MeasureT-loop
 μ-loop work₀ j k stride marks i₀ work i = k - i
 
 loop-holds : tie.Need-loop-holds Inv-loop μ-loop
-loop-holds c = turned-start (c .before .args .j) (c .before .args .a .checks) (c .before .args .a .stride) (c .before .args .a .marks) (c .before .args .work .now)
+loop-holds c =
+    let args = c .before .args in
+    turned-start (args .j) (args .a .checks) (args .a .stride) (args .a .marks) (args .work .now)
 
 bit-requires : tie.Need-bit-requires Inv-loop μ-loop
 bit-requires c κs =
@@ -60,10 +63,11 @@ loop-again c =
     let pre = c .before .before .before .before .before .before .pre in
     let args = c .before .before .before .before .before .before .args in
     let loop = c .before .before .before .before .loop in
-    let same = bits-kept (pre .0) (loop .inv .changed) (loop .i) (omega arith) (args .j) (pre .2) in
+    let kept = rows-kept (pre .0) (args .work .now) (loop .work) (args .a .marks) (pre .0 .rows-end) (loop .inv .changed .front) in
+    let same = sym (kept (loop .i) (omega arith) (args .j) (pre .2)) ∙ sym (c .before .bit .ensures) in
     ⊎-elim
-    (λ way. turned-in (loop .inv) (omega arith) (omega (arith, pre .0)) (sym same ∙ sym (c .before .bit .ensures) ∙ way .0 .taken) (way .2))
-    (λ way. turned-out (loop .inv) (omega arith) (sym same ∙ sym (c .before .bit .ensures) ∙ way .0 .left) (way .1))
+    (λ way. turned-in (loop .inv) (omega arith) (marks-inside (pre .0)) (same ∙ way .0 .taken) (way .2))
+    (λ way. turned-out (loop .inv) (omega arith) (same ∙ way .0 .left) (way .1))
     (c .if1 .came)
 
 same-length : tie.Need-same-length Inv-loop μ-loop

@@ -1,10 +1,9 @@
--- `mending::step` meets its contract: the bit is turned after the marks of its checks. Assumes nothing.
-use mathlib.Core.Path.{refl}
+-- `mending::turn_bit` meets its contract: the bit is turned after the marks of its checks. Assumes nothing.
 use native.Mathlib.Omega.{arith}
 use Rattle.mending.proofs.Marks.{bit-kept, bit-turned}
 use borrow.Author.Needs.{needs}
-use Rattle.mending.proofs.step.Statement.{statement}
-use Rattle.mending.proofs.step.Tie as tie
+use Rattle.mending.proofs.turn_bit.Statement.{statement}
+use Rattle.mending.proofs.turn_bit.Tie as tie
 
 turn-marks-requires : tie.Need-turn-marks-requires
 turn-marks-requires c κs = search needs
@@ -25,9 +24,6 @@ sub-work c =
 slice-write-work : tie.Need-slice-write-work
 slice-write-work c = search needs
 
-add-result : tie.Need-add-result
-add-result c = search needs
-
 same-length : tie.Need-same-length
 same-length c = search needs
 
@@ -35,10 +31,10 @@ returns : tie.Need-returns
 returns c =
     let pre = c .before .before .before .before .before .before .before .pre in
     let turn-marks = c .before .before .before .before .turn-marks in
-    (refl, bit-turned (pre .0) (pre .1) (pre .2) (pre .3) (turn-marks .ensures))
+    bit-turned (pre .0) (pre .1) (pre .2) (pre .3) (turn-marks .ensures)
 
-pub step-spec : {M : Type 1} → statement M
-step-spec =
+pub turn-bit-spec : {M : Type 1} → statement M
+turn-bit-spec =
     tie.close
     (tie.spec
     turn-marks-requires
@@ -46,6 +42,5 @@ step-spec =
     slice-read-work
     sub-work
     slice-write-work
-    add-result
     same-length
     returns)
