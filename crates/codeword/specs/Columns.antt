@@ -36,6 +36,7 @@ abbrev pub placedBit : Areas → List ℕ → ℕ → ℕ
 placedBit a work j =
     cond (isMessage a work j) (getD (part work (a .message) (a .net)) (length (those j (isMessage a work))) 0) 0
 
+-- the net bits are stored in the word, and nothing else is changed
 pub record Placed (a : Areas) (before after : List ℕ) : Type 0 where
   pub changed : ChangedIn (a .word) (a .word + a .gross) before after
   pub placed : (j : ℕ) → j < a .gross → getD after (a .word + j) 0 ≡ placedBit a before j
@@ -46,6 +47,7 @@ solvedBit a work c =
     cond (isMessage a work c) (getD work (a .word + c) 0)
     (unmet (checkOf (a .gross) (denseBits work (a .stride)) (rowOf a work c)) (part work (a .word) (a .gross)))
 
+-- the check columns are solved, and nothing else is changed
 pub record Solved (a : Areas) (before after : List ℕ) : Type 0 where
   pub changed : ChangedIn (a .word) (a .word + a .gross) before after
   pub solved : (c : ℕ) → c < a .gross → getD after (a .word + c) 0 ≡ solvedBit a before c
