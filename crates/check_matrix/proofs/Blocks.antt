@@ -1,7 +1,7 @@
 -- A built block by block: the column orders and the states of the generator in step with the rows.
 -- Assumes nothing.
 use Prim.Native.Nat.{ℕ, suc, _+_, _-_, _*_, _/_, _^_, _%_, _≤_, _<_}
-use mathlib.Core.Path.{_≡_, refl, sym, ap, ap₂, _∙_}
+use mathlib.Core.Path.{_≡_, sym, ap, ap₂, _∙_}
 use mathlib.Core.Logic.{_⊎_, inl, inr, ⊎-elim}
 use mathlib.Core.Bool.{Bool, false, xor}
 use mathlib.Core.List.{List}
@@ -9,7 +9,6 @@ use native.Mathlib.Nat.{zero-mul, suc-mul, mul-comm, mul-le-mul-right, zero-div,
 use native.Mathlib.Numerals.{add-one}
 use native.Mathlib.Decide.{ℕ-discrete, decLt}
 use native.Mathlib.Omega.{arith}
-use lib.Arith.{digits-div, digits-mod}
 use lib.Dec.{eqb}
 use lib.ListN.{getD, List·getD-eq-default}
 use borrow.Author.Tests.{eq-eqb, ne-eqb}
@@ -18,7 +17,7 @@ use Rattle.symbology.specs.Shuffle.{shuffled}
 use Rattle.symbology.specs.Matrix.{matrixSeed, columnOrder, matrixA}
 use Rattle.laws.proofs.Gf2.{xor-none, none-xor}
 use Rattle.laws.proofs.Generator.{after-add}
-use Rattle.laws.proofs.Matrix.{order-lt}
+use Rattle.laws.proofs.Matrix.{order-lt, block-row}
 use Rattle.laws.proofs.Shuffle.{shuffled-every}
 use Rattle.lent.specs.declared.Areas.{Areas}
 use Rattle.lent.specs.Buffer.{numbersAt, ChangedIn, ChangedInBoth, Cleared, CountedUp, Laid}
@@ -54,13 +53,7 @@ module _ {a : Areas} {room : ℕ} (l : Laid a room) where
 
 -- ---- the rows of a block
 
--- row r of the block behind `block` blocks
-block-row : (seed t wr block j r : ℕ) → r < t
-    → matrixA seed t wr (block * t + r) j ≡ eqb (getD (columnOrder seed (t * wr) (suc block)) j 0 / wr) r
-unfolding matrixA
-block-row seed t wr block j r h = rw (digits-div block h, digits-mod block h, add-one block) refl
-
--- the same for a row counted from the first of all
+-- a row counted from the first of all blocks
 block-bit : (seed t wr block i j : ℕ) → block * t ≤ i → i < block * t + t
     → eqb i (block * t + getD (columnOrder seed (t * wr) (suc block)) j 0 / wr) ≡ matrixA seed t wr i j
 block-bit seed t wr block i j h g =
@@ -71,8 +64,9 @@ block-bit seed t wr block i j h g =
       | yes s ↦ eq-eqb i (block * t + q) (omega arith) ∙ sym (eq-eqb q r s)
       | no s ↦ ne-eqb i (block * t + q) (λ (f : i ≡ block * t + q). s (omega arith)) ∙ sym (ne-eqb q r s)
     ]
+    ∙ ap (λ (k : ℕ). eqb (getD (columnOrder seed (t * wr) k) j 0 / wr) r) (sym (add-one block))
     ∙ sym (block-row seed t wr block j r (omega arith))
-    ∙ ap (λ (x : ℕ). matrixA seed t wr x j) e
+    ∙ ap (λ (x : ℕ). matrixA seed t wr x j) (ap (λ (x : ℕ). x + r) (mul-comm t block) ∙ e)
 
 -- ---- block by block
 

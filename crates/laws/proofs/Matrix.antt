@@ -48,8 +48,8 @@ order-lt seed gross k j h = order-every seed gross k (omega arith) j
 
 -- ---- the weights
 
--- row r of the block behind n blocks
-block-row : (seed t wr n j r : ℕ) → r < t
+-- Row r of the block behind n blocks has its 1 of a column where the column order of that block leads.
+pub block-row : (seed t wr n j r : ℕ) → r < t
     → matrixA seed t wr (t * n + r) j ≡ eqb (getD (columnOrder seed (t * wr) (n + 1)) j 0 / wr) r
 unfolding matrixA
 block-row seed t wr n j r h =
