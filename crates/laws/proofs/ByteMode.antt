@@ -44,11 +44,11 @@ bytes-back m b (c ∷ bs) rest out h =
     ∙ bytes-back m c bs rest (out ++ (b ∷ [])) (λ i. h (suc i)) ∙ rw (append-assoc out (b ∷ []) (c ∷ bs))
 
 -- the count of a run, short and long
-count-short : (n : ℕ) → n < 16 → runCount n ≡ bits 4 n
+pub count-short : (n : ℕ) → n < 16 → runCount n ≡ bits 4 n
 unfolding runCount
 count-short n h = rw (lt-ltb n 16 h)
 
-count-long : (n : ℕ) → 16 ≤ n → runCount n ≡ bits 4 0 ++ bits 13 (n - 15)
+pub count-long : (n : ℕ) → 16 ≤ n → runCount n ≡ bits 4 0 ++ bits 13 (n - 15)
 unfolding runCount
 count-long n h = rw (le-ltb n 16 h)
 
@@ -169,7 +169,7 @@ stream-bits m = runs-bits (length m) m
 
 -- ---- the length of the stream
 
-length-bytes : (m : List ℕ) → length (byteBits m) ≡ 8 * length m
+pub length-bytes : (m : List ℕ) → length (byteBits m) ≡ 8 * length m
 unfolding byteBits
 length-bytes [] = refl
 length-bytes (b ∷ bs) = omega (arith, length-append (bits 8 b) (byteBits bs), length-bits 8 b, length-bytes bs)

@@ -25,20 +25,26 @@ use Rattle.symbology.proofs.Ranges.{below-true}
 
 -- ---- one code
 
--- a code has bits
-pub width-some : (m : Mode) (e : Expected) → 0 < codeWidth m e
+-- a code has bits, at most 13
+widths : (m : Mode) (e : Expected) → (0 < codeWidth m e) × (codeWidth m e ≤ 13)
 unfolding codeWidth modeWidth
-width-some Upper Latched = omega arith
-width-some Lower Latched = omega arith
-width-some Numeric Latched = omega arith
-width-some Alphanumeric Latched = omega arith
-width-some m Punctuation = omega arith
-width-some m Mixed = omega arith
-width-some m Capital = omega arith
-width-some m MoreSwitches = omega arith
-width-some m ShortCount = omega arith
-width-some m LongCount = omega arith
-width-some m (Byte k) = omega arith
+widths Upper Latched = omega arith
+widths Lower Latched = omega arith
+widths Numeric Latched = omega arith
+widths Alphanumeric Latched = omega arith
+widths m Punctuation = omega arith
+widths m Mixed = omega arith
+widths m Capital = omega arith
+widths m MoreSwitches = omega arith
+widths m ShortCount = omega arith
+widths m LongCount = omega arith
+widths m (Byte k) = omega arith
+
+pub width-some : (m : Mode) (e : Expected) → 0 < codeWidth m e
+width-some m e = widths m e .0
+
+pub width-most : (m : Mode) (e : Expected) → codeWidth m e ≤ 13
+width-most m e = widths m e .1
 
 -- a code whose bits are there
 code-whole : (m : Mode) (e : Expected) (bs out : List ℕ) → codeWidth m e ≤ length bs

@@ -1,7 +1,6 @@
--- Lemmas of the code: masks, what a module holds, its bits, and a matrix filled and sampled module by module.
+-- Lemmas of the code: masks, what a module holds, and a matrix filled and sampled module by module.
 pub mod Masks
 pub mod Cells
-pub mod Digits
 pub mod Walk
 pub mod Filled
 pub mod Sampled

@@ -123,34 +123,22 @@ fn mask_at(p: Params, c: usize, r: usize) -> u8
     (mask_generator(p.mask, c, r) % n) as u8
 }
 
-// ---- bits, one to a byte, the first bit of a module the highest
+// ---- the bits of a module, one to a byte, the first bit the highest
 
-// The number that n bits write. `left` of them are not read yet.
-fn bits_value(bits: &[u8], at: usize, n: usize) -> u8
+// The colour index that n bits write.
+fn colour_in(bits: &[u8], at: usize, n: usize) -> u8
     requires { ⌜ (at + n ≤ length (now bits)) × (n ≤ 8) ⌝ }
     ensures { λ r. ⌜ r ≡ value (take n (drop at (now (bits .entry)))) ⌝ }
 {
-    let mut v = 0u8;
-    let mut left = n;
-    while 0 < left {
-        v = 2 * v + bits[at + (n - left)] % 2;
-        left -= 1;
-    }
-    v
+    narrow(bitfield::bits_value(bits, at, n))
 }
 
-// Stores the n lowest bits of a number, from the last to the first.
-fn put_bits(out: &mut [u8], at: usize, n: usize, v: u8)
+// Stores the n lowest bits of a colour index.
+fn put_colour(out: &mut [u8], at: usize, n: usize, colour: u8)
     requires { ⌜ at + n ≤ length (now out) ⌝ }
-    ensures { λ _. ⌜ now (out .exit) ≡ sets (now (out .entry)) at (bits n v) ⌝ }
+    ensures { λ _. ⌜ now (out .exit) ≡ sets (now (out .entry)) at (bits n colour) ⌝ }
 {
-    let mut rest = v;
-    let mut i = n;
-    while 0 < i {
-        i -= 1;
-        out[at + i] = rest % 2;
-        rest = rest / 2;
-    }
+    bitfield::put_bits(out, at, n, colour as usize);
 }
 
 // ---- filling
@@ -178,7 +166,7 @@ fn fill_module(
         return k;
     }
     let depth = depth_of(p);
-    matrix[at] = bits_value(bits, depth * k, depth) ^ mask;
+    matrix[at] = colour_in(bits, depth * k, depth) ^ mask;
     k + 1
 }
 
@@ -243,7 +231,7 @@ fn sample_module(
         return k;
     }
     let depth = depth_of(p);
-    put_bits(out, depth * k, depth, matrix[at] ^ mask_at(p, c, r));
+    put_colour(out, depth * k, depth, matrix[at] ^ mask_at(p, c, r));
     k + 1
 }
 

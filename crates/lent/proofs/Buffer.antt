@@ -1,12 +1,12 @@
 -- Parts of a buffer, numbers of two bytes stored and read, and places that stay as they were.
 -- Assumes nothing.
-use Prim.Native.Nat.{ℕ, _+_, _*_, _/_, _%_, _≤_, _<_}
+use Prim.Native.Nat.{ℕ, _+_, _-_, _*_, _/_, _%_, _≤_, _<_}
 use mathlib.Core.Path.{_≡_, refl, sym, ap₂, _∙_}
-use mathlib.Core.List.{List}
-use native.Mathlib.Decide.{ℕ-discrete}
+use mathlib.Core.List.{List, _++_}
+use native.Mathlib.Decide.{decLt, ℕ-discrete}
 use native.Mathlib.Omega.{arith}
-use lib.ListN.{length, getD, drop, set, length-set, length-drop, List·getD-eq-default}
-use lib.Seq.{length-take-le, getD-take, getD-drop, getD-set-same, getD-set-other, ext-getD}
+use lib.ListN.{length, getD, take, drop, set, replicate, length-set, length-drop, length-append, length-replicate, List·getD-append, getD-replicate, List·getD-eq-default}
+use lib.Seq.{length-take-le, getD-take, getD-drop, getD-set-same, getD-set-other, getD-append-add, ext-getD}
 use Rattle.laws.proofs.Ranges.{length-tabulate, getD-tabulate, tabulate-ext}
 use Rattle.lent.specs.Buffer.{part, numberAt, numbersAt, storedNumber, ChangedIn, ChangedInBoth, Cleared, Laid}
 use Rattle.lent.specs.declared.Areas.{Areas}
@@ -156,6 +156,22 @@ cleared-next {from} {i} {before} {after} c h g =
             | no e ↦ getD-set-other after i p 0 0 e ∙ c .zero-in p l (omega arith)
           ];
     }
+
+-- a buffer whose places from `from` on are cleared
+pub cleared-rest : (from : ℕ) (xs ys : List ℕ) → from ≤ length xs → Cleared from (length xs) xs ys → ys ≡ take from xs ++ replicate (length xs - from) 0
+cleared-rest from xs ys h c =
+    let front : List ℕ = take from xs in
+    let zeros : List ℕ = replicate (length xs - from) 0 in
+    let long : length front ≡ from = length-take-le from xs h in
+    ext-getD 0 ys (front ++ zeros) (c .changed .long ∙ omega (arith, length-append front zeros, length-replicate {A = ℕ} (length xs - from) 0))
+    (λ i g. elim (decLt i from) [
+      | yes l ↦ c .changed .front i l ∙ sym (List·getD-append front zeros 0 i (omega arith) ∙ getD-take from xs i 0 l)
+      | no l ↦
+          let k : ℕ = i - from in
+          let place : i ≡ length front + k = omega arith in
+          c .zero-in i (omega arith) (omega (arith, c .changed .long))
+          ∙ sym (rw place (getD-append-add front zeros k 0 ∙ getD-replicate (length xs - from) k 0 0 (omega (arith, c .changed .long))))
+    ])
 
 -- ---- two areas
 

@@ -8,8 +8,8 @@ use native.Mathlib.Decide.{decLt}
 use lib.ListN.{length, length-append}
 use borrow.Author.Tests.{lt-ltb, le-ltb}
 use Rattle.lister.specs.Decimal.{digitsUpTo, decimal}
-use Rattle.lister.specs.Listing.{TextAt}
-use Rattle.lister.proofs.Text.{joined, same-text}
+use Rattle.pieces.specs.Pieces.{StoredAt}
+use Rattle.pieces.proofs.Pieces.{joined, same-piece}
 
 pub decimal-one : (n : ℕ) → n < 10 → decimal n ≡ (48 + n) ∷ []
 unfolding decimal digitsUpTo
@@ -48,15 +48,15 @@ decimal-length n h =
 
 -- ---- stored digit by digit
 
-pub stored-one : (n : ℕ) {l m : List ℕ} {at next a : ℕ} → n < 10 → a ≡ 48 + n → TextAt (a ∷ []) at l m next → TextAt (decimal n) at l m next
-stored-one n h e t = same-text (rw (decimal-one n h, e)) t
+pub stored-one : (n : ℕ) {l m : List ℕ} {at next a : ℕ} → n < 10 → a ≡ 48 + n → StoredAt (a ∷ []) at l m next → StoredAt (decimal n) at l m next
+stored-one n h e t = same-piece (rw (decimal-one n h, e)) t
 
 module _ (n : ℕ) {l m k : List ℕ} {at next end b : ℕ} where
-  pub stored-two : {a : ℕ} → 10 ≤ n → n < 100 → a ≡ 48 + n / 10 → b ≡ 48 + n % 10 → TextAt (a ∷ []) at l m next
-      → TextAt (b ∷ []) next m k end
-      → TextAt (decimal n) at l k end
-  stored-two g h e f t u = same-text (rw (decimal-two n g h, e, f)) (joined t u)
+  pub stored-two : {a : ℕ} → 10 ≤ n → n < 100 → a ≡ 48 + n / 10 → b ≡ 48 + n % 10 → StoredAt (a ∷ []) at l m next
+      → StoredAt (b ∷ []) next m k end
+      → StoredAt (decimal n) at l k end
+  stored-two g h e f t u = same-piece (rw (decimal-two n g h, e, f)) (joined t u)
 
-  pub stored-three : 100 ≤ n → n < 1000 → b ≡ 48 + n % 10 → TextAt (decimal (n / 10)) at l m next → TextAt (b ∷ []) next m k end
-      → TextAt (decimal n) at l k end
-  stored-three g h f t u = same-text (rw (decimal-three n g h, f)) (joined t u)
+  pub stored-three : 100 ≤ n → n < 1000 → b ≡ 48 + n % 10 → StoredAt (decimal (n / 10)) at l m next → StoredAt (b ∷ []) next m k end
+      → StoredAt (decimal n) at l k end
+  stored-three g h f t u = same-piece (rw (decimal-three n g h, f)) (joined t u)

@@ -1,11 +1,8 @@
 -- Document 01, "Points on each side": what the side lister prints for each input.
 -- Assumes nothing.
-use Prim.Native.Nat.{ℕ, _+_}
-use mathlib.Core.Path.{_≡_}
+use Prim.Native.Nat.{ℕ}
 use mathlib.Core.Bool.{cond}
 use mathlib.Core.List.{List, [], _∷_, _++_}
-use lib.ListN.{length}
-use lib.Seq.{sets}
 use Rattle.symbology.specs.Ranges.{within}
 use Rattle.symbology.specs.Sides.{sideSize, coresOf, innerPatterns}
 use Rattle.numerals.specs.Decimal.{numberIn}
@@ -36,8 +33,3 @@ sideText v = cond (within 1 32 v) (numberLine (sideSize v) ++ coresLine (coresOf
 -- what the side lister prints: 0, the number of a text that is none, is no side-version
 unfoldable pub listing : List ℕ → List ℕ
 listing input = sideText (numberIn input)
-
--- text stored from a place on, as far as the buffer reaches, and the place behind it
-pub record TextAt (text : List ℕ) (at : ℕ) (before after : List ℕ) (next : ℕ) : Type 0 where
-  pub place : next ≡ at + length text
-  pub stored : after ≡ sets before at text

@@ -5,25 +5,15 @@
 use numerals::Numeral;
 ghost use Prim.Native.Nat.{_+_, _≤_, _<_};
 ghost use mathlib.Core.Path.{_≡_};
-ghost use mathlib.Core.List.{[], _∷_};
 ghost use lib.ListN.{length, drop};
 ghost use lib.Seq.{sets};
 ghost use Rattle.lister.specs.Decimal.{decimal};
-ghost use Rattle.lister.specs.Listing.{TextAt, numberLine, coresAfter, coresLine, sideText, listing};
+ghost use Rattle.lister.specs.Listing.{numberLine, coresAfter, coresLine, sideText, listing};
+ghost use Rattle.pieces.specs.Pieces.{StoredAt};
 ghost use Rattle.symbology.specs.Sides.{coresOf};
 
 // ---- text. Each function stores from `at` on, as far as the buffer reaches, and answers the place
 // behind the text. A buffer that is too short holds the front of it.
-
-fn put(out: &mut [u8], at: usize, byte: u8) -> usize
-    requires { ⌜ at < 65536 ⌝ }
-    ensures { λ r. ⌜ TextAt (byte ∷ []) at (now (out .entry)) (now (out .exit)) r ⌝ }
-{
-    if at < out.len() {
-        out[at] = byte;
-    }
-    at + 1
-}
 
 fn digit(d: usize) -> u8
     requires { ⌜ d < 10 ⌝ }
@@ -35,33 +25,33 @@ fn digit(d: usize) -> u8
 // A number of one or two digits.
 fn put_short(out: &mut [u8], at: usize, n: usize) -> usize
     requires { ⌜ (at < 65535) × (n < 100) ⌝ }
-    ensures { λ r. ⌜ TextAt (decimal n) at (now (out .entry)) (now (out .exit)) r ⌝ }
+    ensures { λ r. ⌜ StoredAt (decimal n) at (now (out .entry)) (now (out .exit)) r ⌝ }
 {
     if n < 10 {
-        return put(out, at, digit(n));
+        return pieces::put(out, at, digit(n));
     }
-    let next = put(out, at, digit(n / 10));
-    put(out, next, digit(n % 10))
+    let next = pieces::put(out, at, digit(n / 10));
+    pieces::put(out, next, digit(n % 10))
 }
 
 // A number of up to three digits.
 fn put_decimal(out: &mut [u8], at: usize, n: usize) -> usize
     requires { ⌜ (at < 65534) × (n < 1000) ⌝ }
-    ensures { λ r. ⌜ TextAt (decimal n) at (now (out .entry)) (now (out .exit)) r ⌝ }
+    ensures { λ r. ⌜ StoredAt (decimal n) at (now (out .entry)) (now (out .exit)) r ⌝ }
 {
     if n < 100 {
         return put_short(out, at, n);
     }
     let next = put_short(out, at, n / 10);
-    put(out, next, digit(n % 10))
+    pieces::put(out, next, digit(n % 10))
 }
 
 fn put_number_line(out: &mut [u8], at: usize, n: usize) -> usize
     requires { ⌜ (at < 65533) × (n < 1000) ⌝ }
-    ensures { λ r. ⌜ TextAt (numberLine n) at (now (out .entry)) (now (out .exit)) r ⌝ }
+    ensures { λ r. ⌜ StoredAt (numberLine n) at (now (out .entry)) (now (out .exit)) r ⌝ }
 {
     let next = put_decimal(out, at, n);
-    put(out, next, 10)
+    pieces::put(out, next, 10)
 }
 
 fn wide(b: u8) -> usize
@@ -73,7 +63,7 @@ fn wide(b: u8) -> usize
 // The core coordinates but the first, a space before each.
 fn put_cores(out: &mut [u8], at: usize, version: usize) -> usize
     requires { ⌜ (at < 65000) × (1 ≤ version) × (version ≤ 32) ⌝ }
-    ensures { λ r. ⌜ TextAt (coresAfter (drop 1 (coresOf version))) at (now (out .entry)) (now (out .exit)) r ⌝ }
+    ensures { λ r. ⌜ StoredAt (coresAfter (drop 1 (coresOf version))) at (now (out .entry)) (now (out .exit)) r ⌝ }
 {
     let row = tables::core_row(version);
     let n = wide(row.len);
@@ -81,7 +71,7 @@ fn put_cores(out: &mut [u8], at: usize, version: usize) -> usize
     let mut i = 1;
     while i < n {
         let core = wide(row.at[i]);
-        let space = put(out, next, 32);
+        let space = pieces::put(out, next, 32);
         next = put_decimal(out, space, core);
         i += 1;
     }
@@ -91,20 +81,20 @@ fn put_cores(out: &mut [u8], at: usize, version: usize) -> usize
 // The line of all core coordinates. Each side has its first at 4.
 fn put_cores_line(out: &mut [u8], at: usize, version: usize) -> usize
     requires { ⌜ (at < 60000) × (1 ≤ version) × (version ≤ 32) ⌝ }
-    ensures { λ r. ⌜ TextAt (coresLine (coresOf version)) at (now (out .entry)) (now (out .exit)) r ⌝ }
+    ensures { λ r. ⌜ StoredAt (coresLine (coresOf version)) at (now (out .entry)) (now (out .exit)) r ⌝ }
 {
-    let first = put(out, at, 52);
+    let first = pieces::put(out, at, 52);
     let next = put_cores(out, first, version);
-    put(out, next, 10)
+    pieces::put(out, next, 10)
 }
 
 fn put_text(out: &mut [u8], text: &[u8]) -> usize
     requires { ⌜ length (now text) < 65536 ⌝ }
-    ensures { λ r. ⌜ TextAt (now (text .entry)) 0 (now (out .entry)) (now (out .exit)) r ⌝ }
+    ensures { λ r. ⌜ StoredAt (now (text .entry)) 0 (now (out .entry)) (now (out .exit)) r ⌝ }
 {
     let mut at = 0;
     while at < text.len() {
-        at = put(out, at, text[at]);
+        at = pieces::put(out, at, text[at]);
     }
     at
 }

@@ -9,7 +9,8 @@ use Rattle.tables.specs.declared.CoreRow.{CoreRow}
 use Rattle.symbology.proofs.Sides.{cores-least, cores-most, core-most}
 use Rattle.tables.proofs.Cores.{core-at}
 use Rattle.lister.specs.Listing.{coresAfter}
-use Rattle.lister.proofs.Text.{Left, left-all, left-none, cores-next, text-kept}
+use Rattle.pieces.proofs.Pieces.{Left, left-all, left-none, stored-kept}
+use Rattle.lister.proofs.Text.{cores-next}
 use Rattle.lister.proofs.Lengths.{cores-length}
 use Rattle.lister.proofs.put_cores.Statement.{statement}
 use Rattle.lister.proofs.put_cores.Tie as tie
@@ -96,7 +97,7 @@ returns c =
     left-none (ap coresAfter (drop-of-length-le (coresOf v) e)) (l .inv .2)
 
 same-length : tie.Need-same-length Inv-loop μ-loop
-same-length c = text-kept (returns c)
+same-length c = stored-kept (returns c)
 
 pub put-cores-spec : {M : Type 1} → statement M
 put-cores-spec =

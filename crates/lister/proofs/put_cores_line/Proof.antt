@@ -2,7 +2,7 @@
 use native.Mathlib.Omega.{arith}
 use Rattle.symbology.specs.Sides.{coresOf}
 use Rattle.symbology.proofs.Sides.{cores-least, cores-most, core-first}
-use Rattle.lister.proofs.Text.{joined, same-text}
+use Rattle.pieces.proofs.Pieces.{joined, same-piece}
 use Rattle.lister.proofs.Lengths.{cores-length}
 use Rattle.lister.proofs.Listing.{cores-line}
 use borrow.Author.Needs.{needs}
@@ -29,7 +29,7 @@ returns c =
     let v = s .args .version in
     let least = cores-least v (s .pre .1) (s .pre .2) in
     let most = cores-most v (s .pre .1) (s .pre .2) in
-    same-text (cores-line (coresOf v) (omega arith) (core-first v (s .pre .1) (s .pre .2))) (joined (joined (c .before .before .before .before .before .before .before .before .before .before .put .ensures) (c .before .before .before .before .before .before .put-cores .ensures)) (c .before .before .put2 .ensures))
+    same-piece (cores-line (coresOf v) (omega arith) (core-first v (s .pre .1) (s .pre .2))) (joined (joined (c .before .before .before .before .before .before .before .before .before .before .put .ensures) (c .before .before .before .before .before .before .put-cores .ensures)) (c .before .before .put2 .ensures))
 
 pub put-cores-line-spec : {M : Type 1} → statement M
 put-cores-line-spec =

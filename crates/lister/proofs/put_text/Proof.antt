@@ -2,7 +2,8 @@
 use Prim.Native.Nat.{_≤_, _-_}
 use native.Mathlib.Omega.{arith}
 use lib.ListN.{length, drop, drop-of-length-le}
-use Rattle.lister.proofs.Text.{Left, left-all, left-none, text-next, text-kept}
+use Rattle.pieces.proofs.Pieces.{Left, left-all, left-none, stored-kept}
+use Rattle.lister.proofs.Text.{text-next}
 use Rattle.lister.proofs.put_text.Statement.{statement}
 use Rattle.lister.proofs.put_text.Tie as tie
 
@@ -31,7 +32,7 @@ returns : tie.Need-returns Inv-loop μ-loop
 returns c = left-none (drop-of-length-le (c .before .before .before .before .args .text .now) (c .loop-test .left)) (c .before .loop .inv .1)
 
 same-length : tie.Need-same-length Inv-loop μ-loop
-same-length c = text-kept (returns c)
+same-length c = stored-kept (returns c)
 
 pub put-text-spec : {M : Type 1} → statement M
 put-text-spec =

@@ -3,8 +3,10 @@ use mathlib.Core.Path.{ap}
 use native.Mathlib.Omega.{arith}
 use lib.ListN.{length}
 use Rattle.symbology.specs.Sides.{sideSize}
-use Rattle.lister.specs.Listing.{TextAt, numberLine, refusedLine}
-use Rattle.lister.proofs.Text.{joined, same-text, from-start}
+use Rattle.pieces.specs.Pieces.{StoredAt}
+use Rattle.lister.specs.Listing.{numberLine, refusedLine}
+use Rattle.pieces.proofs.Pieces.{joined, same-piece}
+use Rattle.lister.proofs.Text.{from-start}
 use Rattle.lister.proofs.Lengths.{text-length}
 use Rattle.lister.proofs.Listing.{refused-below, refused-above, three-lines, lines-fit}
 use borrow.Author.Needs.{needs}
@@ -24,7 +26,7 @@ returns : tie.Need-returns
 unfolding refusedLine
 returns c =
     let e = refused-below (c .before .before .before .before .before .before .before .args .version) (c .before .before .before .before .before .if1 .taken) in
-    from-start (same-text e (c .before .before .put-text .ensures)) (omega (arith, ap length e))
+    from-start (same-piece e (c .before .before .put-text .ensures)) (omega (arith, ap length e))
 
 slice-aggregate-put-text-2 : tie.Need-slice-aggregate-put-text-2
 slice-aggregate-put-text-2 c = search needs
@@ -39,7 +41,7 @@ returns-2 : tie.Need-returns-2
 unfolding refusedLine
 returns-2 c =
     let e = refused-above (c .before .before .before .before .before .before .before .before .args .version) (c .before .before .before .before .before .if2 .taken) in
-    from-start (same-text e (c .before .before .put-text2 .ensures)) (omega (arith, ap length e))
+    from-start (same-piece e (c .before .before .put-text2 .ensures)) (omega (arith, ap length e))
 
 side-size-requires : tie.Need-side-size-requires
 side-size-requires c κs = search needs
@@ -50,8 +52,8 @@ put-number-line-requires c κs = search needs
 -- the first line is that of the side's size
 first-line : (c : tie.After-put-number-line)
     → let a = c .before .before .before .before .before .before .args in
-    TextAt (numberLine (sideSize (a .version))) 0 (a .out .now) (c .put-number-line .last .0) (c .put-number-line .result)
-first-line c = same-text (ap numberLine (c .before .side-size .ensures .0)) (c .put-number-line .ensures)
+    StoredAt (numberLine (sideSize (a .version))) 0 (a .out .now) (c .put-number-line .last .0) (c .put-number-line .result)
+first-line c = same-piece (ap numberLine (c .before .side-size .ensures .0)) (c .put-number-line .ensures)
 
 put-cores-line-requires : tie.Need-put-cores-line-requires
 put-cores-line-requires c κs =
@@ -72,9 +74,9 @@ same-length-3 c = search needs
 returns-3 : tie.Need-returns-3
 returns-3 c =
     let v = c .before .before .before .before .before .before .before .before .before .before .before .before .before .before .before .before .before .args .version in
-    let third = same-text (ap numberLine (c .before .before .before .inner-patterns .ensures .0)) (c .before .before .put-number-line2 .ensures) in
+    let third = same-piece (ap numberLine (c .before .before .before .inner-patterns .ensures .0)) (c .before .before .put-number-line2 .ensures) in
     let lines = joined (joined (first-line (c .before .before .before .before .before .before .before .before .before .before .before)) (c .before .before .before .before .before .before .before .put-cores-line .ensures)) third in
-    from-start (same-text (three-lines v (c .before .before .before .before .before .before .before .before .before .before .before .before .before .before .before .if1 .left) (c .before .before .before .before .before .before .before .before .before .before .before .before .before .before .if2 .left)) lines) (text-length v (c .before .before .before .before .before .before .before .before .before .before .before .before .before .before .before .if1 .left) (c .before .before .before .before .before .before .before .before .before .before .before .before .before .before .if2 .left))
+    from-start (same-piece (three-lines v (c .before .before .before .before .before .before .before .before .before .before .before .before .before .before .before .if1 .left) (c .before .before .before .before .before .before .before .before .before .before .before .before .before .before .if2 .left)) lines) (text-length v (c .before .before .before .before .before .before .before .before .before .before .before .before .before .before .before .if1 .left) (c .before .before .before .before .before .before .before .before .before .before .before .before .before .before .if2 .left))
 
 pub side-text-spec : {M : Type 1} → statement M
 side-text-spec =

@@ -1,0 +1,2 @@
+-- Lemmas of the code: the columns of Table 12.
+pub mod Columns

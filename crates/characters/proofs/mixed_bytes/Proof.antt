@@ -1,0 +1,33 @@
+-- `characters::mixed_bytes` meets its contract. Assumes nothing.
+use mathlib.Core.Path.{refl, _∙_}
+use borrow.Author.Needs.{needs}
+use Rattle.symbology.specs.Characters.{mixedCharacters}
+use Rattle.characters.proofs.Columns.{column-front, isAscii}
+use Rattle.characters.proofs.mixed_bytes.Statement.{statement}
+use Rattle.characters.proofs.mixed_bytes.Tie as tie
+
+slice-aggregate-character : tie.Need-slice-aggregate-character
+slice-aggregate-character c = search needs
+
+character-requires : tie.Need-character-requires
+character-requires c κs = search needs
+
+returns : tie.Need-returns
+unfolding mixedCharacters isAscii
+returns c = c .character .ensures ∙ column-front _ _ refl (c .before .before .before .args .v) (c .before .before .if1 .taken)
+
+mixed-several-requires : tie.Need-mixed-several-requires
+mixed-several-requires c κs = search needs
+
+returns-2 : tie.Need-returns-2
+returns-2 c = search needs
+
+pub mixed-bytes-spec : {M : Type 1} → statement M
+mixed-bytes-spec =
+    tie.close
+    (tie.spec
+    slice-aggregate-character
+    character-requires
+    returns
+    mixed-several-requires
+    returns-2)

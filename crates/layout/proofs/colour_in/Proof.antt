@@ -1,0 +1,24 @@
+-- `layout::colour_in` meets its contract. Assumes nothing.
+use Prim.Native.Nat.{_≤_}
+use native.Mathlib.Omega.{arith}
+use lib.ListN.{drop}
+use lib.Pow.{pow-mono}
+use borrow.Author.Needs.{needs}
+use Rattle.laws.proofs.Bits.{value-take}
+use Rattle.layout.proofs.colour_in.Statement.{statement}
+use Rattle.layout.proofs.colour_in.Tie as tie
+
+bits-value-requires : tie.Need-bits-value-requires
+bits-value-requires c κs = search needs
+
+narrow-requires : tie.Need-narrow-requires
+narrow-requires c κs =
+    let a = c .before .before .args in
+    let few : a .n ≤ 8 = c .before .before .pre .1 in
+    omega (arith, c .bits-value .ensures, value-take (a .n) (drop (a .at) (a .bits .now)), pow-mono few)
+
+returns : tie.Need-returns
+returns c = search needs
+
+pub colour-in-spec : {M : Type 1} → statement M
+colour-in-spec = tie.close (tie.spec bits-value-requires narrow-requires returns)
