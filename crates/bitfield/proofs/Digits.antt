@@ -34,7 +34,7 @@ value-small i n bs h k =
 -- ---- bits stored
 
 -- the last of a run of stores may be done first
-pub sets-last : (o xs : List ℕ) (at y : ℕ) → sets o at (xs ++ (y ∷ [])) ≡ sets (set o (at + length xs) y) at xs
+sets-last : (o xs : List ℕ) (at y : ℕ) → sets o at (xs ++ (y ∷ [])) ≡ sets (set o (at + length xs) y) at xs
 sets-last o [] at y = rw (add-zero at)
 sets-last o (x ∷ xs) at y =
     let ahead : suc at + length xs ≡ at + suc (length xs) = omega arith in

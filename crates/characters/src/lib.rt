@@ -5,7 +5,7 @@ ghost use Prim.Native.Nat.{_≤_, _<_, _^_};
 ghost use mathlib.Core.Path.{_≡_};
 ghost use mathlib.Core.List.{[], _∷_};
 ghost use lib.ListN.{take, drop};
-ghost use Rattle.characters.specs.CodeBytes.{bytesIn};
+ghost use Rattle.characters.specs.Bytes.{codeBytes};
 ghost use Rattle.symbology.specs.Characters.{punctuationCharacters, mixedCharacters, characterBytes};
 ghost use Rattle.symbology.specs.Modes.{codeWidth, charactersOf, bytesOf};
 
@@ -18,7 +18,7 @@ pub struct CodeBytes {
 }
 
 fn no_bytes() -> CodeBytes
-    ensures { λ r. ⌜ bytesIn r ≡ [] ⌝ }
+    ensures { λ r. ⌜ r ≡ codeBytes [] ⌝ }
 {
     CodeBytes {
         count: 0,
@@ -29,7 +29,7 @@ fn no_bytes() -> CodeBytes
 }
 
 fn one_byte(a: u8) -> CodeBytes
-    ensures { λ r. ⌜ bytesIn r ≡ a ∷ [] ⌝ }
+    ensures { λ r. ⌜ r ≡ codeBytes (a ∷ []) ⌝ }
 {
     CodeBytes {
         count: 1,
@@ -40,7 +40,7 @@ fn one_byte(a: u8) -> CodeBytes
 }
 
 fn two_bytes(a: u8, b: u8) -> CodeBytes
-    ensures { λ r. ⌜ bytesIn r ≡ a ∷ b ∷ [] ⌝ }
+    ensures { λ r. ⌜ r ≡ codeBytes (a ∷ b ∷ []) ⌝ }
 {
     CodeBytes {
         count: 2,
@@ -52,7 +52,7 @@ fn two_bytes(a: u8, b: u8) -> CodeBytes
 
 // Value v of a column of Table 12 whose characters are one byte each; past them no bytes.
 fn character(column: &[u8], v: usize) -> CodeBytes
-    ensures { λ r. ⌜ bytesIn r ≡ take 1 (drop v (now (column .entry))) ⌝ }
+    ensures { λ r. ⌜ r ≡ codeBytes (take 1 (drop v (now (column .entry)))) ⌝ }
 {
     if v < column.len() {
         return one_byte(column[v]);
@@ -62,7 +62,7 @@ fn character(column: &[u8], v: usize) -> CodeBytes
 
 // Table 12: the columns of the modes that are latched.
 fn latched_bytes(m: Mode, v: usize) -> CodeBytes
-    ensures { λ r. ⌜ bytesIn r ≡ characterBytes (charactersOf m) v ⌝ }
+    ensures { λ r. ⌜ r ≡ codeBytes (characterBytes (charactersOf m) v) ⌝ }
 {
     match m {
         Mode::Upper => character(b" ABCDEFGHIJKLMNOPQRSTUVWXYZ", v),
@@ -78,7 +78,7 @@ fn latched_bytes(m: Mode, v: usize) -> CodeBytes
 }
 
 fn punctuation_bytes(v: usize) -> CodeBytes
-    ensures { λ r. ⌜ bytesIn r ≡ characterBytes punctuationCharacters v ⌝ }
+    ensures { λ r. ⌜ r ≡ codeBytes (characterBytes punctuationCharacters v) ⌝ }
 {
     character(b"!\"$%&'(),-./:;?@", v)
 }
@@ -87,7 +87,7 @@ fn punctuation_bytes(v: usize) -> CodeBytes
 // and beyond the 7-bit set, in UTF-8, the euro sign, the section sign, Ä, Ö, Ü, ß, ä, ö and ü.
 fn mixed_several(v: usize) -> CodeBytes
     requires { ⌜ (19 ≤ v) × (v < 32) ⌝ }
-    ensures { λ r. ⌜ bytesIn r ≡ characterBytes mixedCharacters v ⌝ }
+    ensures { λ r. ⌜ r ≡ codeBytes (characterBytes mixedCharacters v) ⌝ }
 {
     let first = b"\n,.:\xE2\xC2\xC3\xC3\xC3\xC3\xC3\xC3\xC3";
     let second = b"\r   \x82\xA7\x84\x96\x9C\x9F\xA4\xB6\xBC";
@@ -105,7 +105,7 @@ fn mixed_several(v: usize) -> CodeBytes
 
 fn mixed_bytes(v: usize) -> CodeBytes
     requires { ⌜ v < 32 ⌝ }
-    ensures { λ r. ⌜ bytesIn r ≡ characterBytes mixedCharacters v ⌝ }
+    ensures { λ r. ⌜ r ≡ codeBytes (characterBytes mixedCharacters v) ⌝ }
 {
     if v < 19 {
         return character(b"#*+<=>[\\]^_`{|}~\t\n\r", v);
@@ -116,7 +116,7 @@ fn mixed_bytes(v: usize) -> CodeBytes
 // The bytes that the code of value v gives.
 pub fn bytes_of(m: Mode, e: Expected, v: usize) -> CodeBytes
     requires { ⌜ v < 2 ^ codeWidth m e ⌝ }
-    ensures { λ r. ⌜ bytesIn r ≡ bytesOf m e v ⌝ }
+    ensures { λ r. ⌜ r ≡ codeBytes (bytesOf m e v) ⌝ }
 {
     match e {
         Expected::Latched => latched_bytes(m, v),

@@ -18,7 +18,7 @@ use Rattle.symbology.specs.declared.Expected.the-variants.{Latched, MoreSwitche
 use Rattle.symbology.specs.Bits.{AllBits, AllBytes, bits}
 use Rattle.symbology.specs.Ranges.{tabulate}
 use Rattle.symbology.specs.Characters.{upperCharacters, utf8Bytes, characterBytes}
-use Rattle.symbology.specs.Modes.{modeWidth, codeWidth, characterCount, directSwitches, moreSwitches, switchOf, charactersOf, bytesOf, endNumber}
+use Rattle.symbology.specs.Modes.{codeWidth, characterCount, directSwitches, moreSwitches, switchOf, charactersOf, bytesOf}
 use Rattle.symbology.specs.Stream.{decode, byteBits, runCount, byteRun, byteRuns, byteStream}
 use Rattle.laws.proofs.Bits.{take-every, drop-every, length-bits, value-bits, append-bits, bits-are}
 use Rattle.laws.proofs.Stream.{width-some, readFrom, readOn, decode-from, read-step, read-short}
@@ -37,7 +37,7 @@ code-back m e v rest out h =
 -- the bytes of a run
 bytes-back : (m : Mode) (b : ℕ) (bs rest out : List ℕ) → AllBytes (b ∷ bs)
     → readFrom m (Byte (length bs)) (byteBits (b ∷ bs) ++ rest) out ≡ readFrom m Latched rest (out ++ b ∷ bs)
-unfolding byteBits codeWidth switchOf bytesOf
+unfolding byteBits switchOf bytesOf
 bytes-back m b [] rest out h = rw (append-assoc (bits 8 b) [] rest) (code-back m (Byte 0) b rest out (h 0))
 bytes-back m b (c ∷ bs) rest out h =
     rw (append-assoc (bits 8 b) (byteBits (c ∷ bs)) rest) (code-back m (Byte (suc (length bs))) b (byteBits (c ∷ bs) ++ rest) out (h 0))
@@ -54,14 +54,14 @@ count-long n h = rw (le-ltb n 16 h)
 
 short-back : (m : Mode) (n : ℕ) (rest out : List ℕ) → suc n < 16
     → readFrom m ShortCount (bits 4 (suc n) ++ rest) out ≡ readFrom m (Byte n) rest out
-unfolding codeWidth switchOf bytesOf
+unfolding switchOf bytesOf
 short-back m n rest out h =
     let less : suc n - 1 ≡ n = omega arith in
     code-back m ShortCount (suc n) rest out h ∙ rw (ne-eqb (suc n) 0 (λ e. omega arith), less, append-nil out)
 
 long-back : (m : Mode) (n : ℕ) (rest out : List ℕ) → 15 ≤ n → n ≤ 8205
     → readFrom m ShortCount (bits 4 0 ++ (bits 13 (suc n - 15) ++ rest)) out ≡ readFrom m (Byte n) rest out
-unfolding codeWidth switchOf bytesOf
+unfolding switchOf bytesOf
 long-back m n rest out above few =
     let more : suc n - 15 + 14 ≡ n = omega arith in
     code-back m ShortCount 0 (bits 13 (suc n - 15) ++ rest) out (omega arith)
@@ -77,7 +77,7 @@ count-back m n rest out h = elim (decLt (suc n) 16) [
 
 -- the two switches of a run
 switch-back : (rest out : List ℕ) → readFrom Upper Latched (bits 5 31 ++ (bits 2 0 ++ rest)) out ≡ readFrom Upper ShortCount rest out
-unfolding codeWidth modeWidth switchOf characterCount directSwitches moreSwitches bytesOf charactersOf characterBytes upperCharacters tabulate utf8Bytes
+unfolding switchOf characterCount directSwitches moreSwitches bytesOf charactersOf characterBytes upperCharacters tabulate utf8Bytes
 switch-back rest out =
     code-back Upper Latched 31 (bits 2 0 ++ rest) out (omega arith)
     ∙ code-back Upper MoreSwitches 0 rest (out ++ []) (omega arith) ∙ rw (append-nil out, append-nil out)
@@ -108,7 +108,6 @@ take-few (suc n) (x ∷ m) = omega (arith, take-few n m)
 
 -- the end of a stream, met between codes
 end-back : (out : List ℕ) → readFrom Upper Latched [] out ≡ record { number = 0; bytes = out ++ [] }
-unfolding endNumber
 end-back out = read-short Upper Latched [] out (width-some Upper Latched) ∙ rw (append-nil out)
 
 -- a first run of k + 1 bytes at most, and what follows it
@@ -174,27 +173,35 @@ unfolding byteBits
 length-bytes [] = refl
 length-bytes (b ∷ bs) = omega (arith, length-append (bits 8 b) (byteBits bs), length-bits 8 b, length-bytes bs)
 
+-- how many bits a count has
+pub short-length : (n : ℕ) → n < 16 → length (runCount n) ≡ 4
+short-length n h = omega (arith, ap length (count-short n h), length-bits 4 n)
+
+pub long-length : (n : ℕ) → 16 ≤ n → length (runCount n) ≡ 17
+long-length n h =
+    omega (arith, ap length (count-long n h), length-append (bits 4 0) (bits 13 (n - 15)), length-bits 4 0, length-bits 13 (n - 15))
+
 -- the bits of a run before its bytes: two switches and the count
 abbrev pub runHead : ℕ → ℕ
 runHead n = cond (ltb n 16) 11 24
 
-length-count : (n : ℕ) → 7 + length (runCount n) ≡ runHead n
-length-count n = elim (decLt n 16) [
-  | yes s ↦ rw (count-short n s, lt-ltb n 16 s) (omega (arith, length-bits 4 n))
-  | no s ↦
-      let long : 16 ≤ n = omega arith in
-      rw (count-long n long, le-ltb n 16 long) (omega (arith, length-append (bits 4 0) (bits 13 (n - 15)), length-bits 4 0, length-bits 13 (n - 15)))
+length-head : (n : ℕ) → 7 + length (runCount n) ≡ runHead n
+length-head n = elim (decLt n 16) [
+  | yes s ↦ rw (lt-ltb n 16 s) (omega (arith, short-length n s))
+  | no s ↦ let long : 16 ≤ n = omega arith in rw (le-ltb n 16 long) (omega (arith, long-length n long))
 ]
 
--- a run has its head's bits and eight for each byte
-pub length-run : (m : List ℕ) → length (byteRun m) ≡ runHead (length m) + 8 * length m
+-- a run has two switches, its count and eight bits for each byte
+pub run-length : (m : List ℕ) → length (byteRun m) ≡ 7 + length (runCount (length m)) + 8 * length m
 unfolding byteRun
-length-run m =
+run-length m =
     let count : List ℕ = runCount (length m) in
-    let two : length (bits 5 31 ++ bits 2 0) ≡ 7 = omega (arith, length-append (bits 5 31) (bits 2 0), length-bits 5 31, length-bits 2 0) in
-    let head : length (bits 5 31 ++ bits 2 0 ++ count) ≡ runHead (length m) =
-    length-append (bits 5 31 ++ bits 2 0) count ∙ rw two (length-count (length m)) in
-    length-append (bits 5 31 ++ bits 2 0 ++ count) (byteBits m) ∙ rw (head, length-bytes m)
+    let switches : List ℕ = bits 5 31 ++ bits 2 0 in
+    omega
+    (arith, length-append (switches ++ count) (byteBits m), length-append switches count, length-append (bits 5 31) (bits 2 0), length-bits 5 31, length-bits 2 0, length-bytes m)
+
+length-run : (m : List ℕ) → length (byteRun m) ≡ runHead (length m) + 8 * length m
+length-run m = run-length m ∙ ap (λ (x : ℕ). x + 8 * length m) (length-head (length m))
 
 runs-none : (n : ℕ) → byteRuns n [] ≡ []
 unfolding byteRuns

@@ -10,7 +10,7 @@ use native.Mathlib.Decide.{decLt}
 use lib.Dec.{eqb}
 use lib.ListN.{length, take, replicate, length-append, length-replicate, List·getD-eq-default}
 use lib.Seq.{take-at, length-take-le}
-use borrow.Author.Tests.{ne-eqb, eqb-true, eqb-false}
+use borrow.Author.Tests.{eq-eqb, ne-eqb, eqb-true, eqb-false}
 use Rattle.symbology.specs.Ranges.{tally, tabulate}
 use Rattle.symbology.specs.Bits.{AllBits, anyOne}
 use Rattle.symbology.specs.Net.{withEndMark, upToLastOne, streamIn, stuffing}
@@ -75,22 +75,23 @@ any-zeros (suc n) = any-zeros n
 
 -- ---- the end mark
 
-upTo-mark : (stream : List ℕ) (k : ℕ) → upToLastOne (stream ++ 1 ∷ replicate k 0) ≡ suc (length stream)
-upTo-mark [] k = last-here 1 (replicate k 0) (none-upTo (replicate k 0) (any-zeros k))
-upTo-mark (b ∷ stream) k =
-    let later : upToLastOne (stream ++ 1 ∷ replicate k 0) ≡ suc (length stream) = upTo-mark stream k in
-    last-behind b (stream ++ 1 ∷ replicate k 0) (omega arith) ∙ ap suc later
+-- a 1 with zeros behind it is the last
+pub upTo-one : (bs : List ℕ) (b k : ℕ) → b % 2 ≡ 1 → upToLastOne (bs ++ b ∷ replicate k 0) ≡ suc (length bs)
+upTo-one [] b k o = last-here b (replicate k 0) (none-upTo (replicate k 0) (any-zeros k)) ∙ rw (eq-eqb (b % 2) 1 o)
+upTo-one (x ∷ bs) b k o =
+    let later : upToLastOne (bs ++ b ∷ replicate k 0) ≡ suc (length bs) = upTo-one bs b k o in
+    last-behind x (bs ++ b ∷ replicate k 0) (omega arith) ∙ ap suc later
 
 -- the last 1 of net bits is their end mark
 pub upTo-net : (n : ℕ) (stream : List ℕ) → upToLastOne (withEndMark n stream) ≡ suc (length stream)
 unfolding withEndMark
-upTo-net n stream = upTo-mark stream (n - suc (length stream))
+upTo-net n stream = upTo-one stream 1 (n - suc (length stream)) refl
 
 -- Net bits give back their stream.
 pub net-back : (n : ℕ) (stream : List ℕ) → streamIn (withEndMark n stream) ≡ stream
 unfolding streamIn withEndMark
 net-back n stream =
-    rw (upTo-mark stream (n - suc (length stream))) (take-at stream (1 ∷ replicate (n - suc (length stream)) 0) (suc (length stream) - 1) (omega arith))
+    rw (upTo-one stream 1 (n - suc (length stream)) refl) (take-at stream (1 ∷ replicate (n - suc (length stream)) 0) (suc (length stream) - 1) (omega arith))
 
 -- a stream shorter than the net bits fills them with its end mark and the zeros
 pub length-net : (n : ℕ) (stream : List ℕ) → length stream < n → length (withEndMark n stream) ≡ n

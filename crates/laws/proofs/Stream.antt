@@ -8,7 +8,7 @@ use mathlib.Core.List.{List, [], _++_}
 use native.Mathlib.Omega.{arith}
 use native.Mathlib.Decide.{decLt}
 use lib.Dec.{leb, eqb}
-use lib.ListN.{length, getD, take, drop, length-append, length-drop, List·getD-eq-default}
+use lib.ListN.{length, getD, take, drop, length-drop, List·getD-eq-default}
 use borrow.Author.Tests.{le-leb, lt-leb, leb-true}
 use Rattle.symbology.specs.declared.Mode.{Mode}
 use Rattle.symbology.specs.declared.Mode.the-variants.{Upper, Lower, Numeric, Alphanumeric}
@@ -19,7 +19,7 @@ use Rattle.symbology.specs.declared.ModeAnswer.the-variants.{Next, EndOfMessage
 use Rattle.symbology.specs.Bits.{value}
 use Rattle.symbology.specs.Ranges.{tabulate, allBelow}
 use Rattle.symbology.specs.Characters.{upperCharacters, lowerCharacters, numericCharacters, punctuationCharacters, mixedCharacters, alphanumericCharacters, utf8, utf8Bytes, characterBytes}
-use Rattle.symbology.specs.Modes.{modeWidth, codeWidth, switchOf, charactersOf, bytesOf, modeNumber, endNumber}
+use Rattle.symbology.specs.Modes.{codeWidth, switchOf, charactersOf, bytesOf, modeNumber, endNumber}
 use Rattle.symbology.specs.Stream.{Decoded, Reading, at, over, afterCode, readCode, readCodes, decode}
 use Rattle.symbology.proofs.Ranges.{below-true}
 
@@ -27,7 +27,6 @@ use Rattle.symbology.proofs.Ranges.{below-true}
 
 -- a code has bits, at most 13
 widths : (m : Mode) (e : Expected) → (0 < codeWidth m e) × (codeWidth m e ≤ 13)
-unfolding codeWidth modeWidth
 widths Upper Latched = omega arith
 widths Lower Latched = omega arith
 widths Numeric Latched = omega arith
@@ -86,7 +85,7 @@ EndIsNumber (at m e bs out) = Unit {0}
 EndIsNumber (over k out) = IsNumber k
 
 after-number : (s : ModeAnswer) (bs out : List ℕ) → EndIsNumber (afterCode s bs out)
-unfolding afterCode modeNumber
+unfolding afterCode
 after-number (Next m e) bs out = tt
 after-number EndOfMessage bs out = inl refl
 after-number Undefined bs out = inr (inl refl)
@@ -94,7 +93,6 @@ after-number Eci bs out = inr (inr refl)
 after-number Fnc1 bs out = inr (inr refl)
 
 end-number : (e : Expected) (left : ℕ) → IsNumber (endNumber e left)
-unfolding endNumber
 end-number Latched left = go (eqb left 0)
   where
     go : (t : Bool) → IsNumber (cond t 0 12)
@@ -246,7 +244,7 @@ bytes-three m (Byte k) v = omega arith
 
 -- a code gives no more bytes than it has bits
 pub bytes-few : (m : Mode) (e : Expected) (v : ℕ) → length (bytesOf m e v) ≤ codeWidth m e
-unfolding bytesOf charactersOf codeWidth
+unfolding bytesOf charactersOf
 bytes-few m Latched v = omega (arith, latched-few m v, width-some m Latched)
 bytes-few m Punctuation v = omega (arith, punctuation-few v)
 bytes-few m Mixed v = omega (arith, mixed-few v)
@@ -255,36 +253,3 @@ bytes-few m MoreSwitches v = omega arith
 bytes-few m ShortCount v = omega arith
 bytes-few m LongCount v = omega arith
 bytes-few m (Byte k) v = omega arith
-
--- the bytes read and the bits left are at most n
-abbrev Few : ℕ → Reading → Type 0
-Few n (at m e bs out) = length out + length bs ≤ n
-Few n (over k out) = length out ≤ n
-
-after-few : (n : ℕ) (s : ModeAnswer) (bs out : List ℕ) → length out + length bs ≤ n → Few n (afterCode s bs out)
-unfolding afterCode
-after-few n (Next m e) bs out h = h
-after-few n EndOfMessage bs out h = omega arith
-after-few n Undefined bs out h = omega arith
-after-few n Eci bs out h = omega arith
-after-few n Fnc1 bs out h = omega arith
-
-code-few : (n : ℕ) (m : Mode) (e : Expected) (bs out : List ℕ) → length out + length bs ≤ n → Few n (readCode m e bs out)
-code-few n m e bs out h =
-    let w : ℕ = codeWidth m e in
-    let v : ℕ = value (take w bs) in
-    code-by (Few n) m e bs out
-    (λ l. after-few n (switchOf m e v) (drop w bs) (out ++ bytesOf m e v)
-    (omega (arith, length-append out (bytesOf m e v), length-drop w bs, bytes-few m e v))) (λ l. omega arith)
-
-codes-few : (n f : ℕ) (r : Reading) → Few n r → length (readCodes f r .bytes) ≤ n
-unfolding readCodes
-codes-few n zero (at m e bs out) h = omega arith
-codes-few n zero (over k out) h = h
-codes-few n (suc f) (at m e bs out) h = codes-few n f (readCode m e bs out) (code-few n m e bs out h)
-codes-few n (suc f) (over k out) h = h
-
--- a stream gives no more bytes than it has bits
-pub decode-few : (bs : List ℕ) → length (decode bs .bytes) ≤ length bs
-unfolding decode
-decode-few bs = codes-few (length bs) (suc (length bs)) (at Upper Latched bs []) (omega arith)

@@ -26,7 +26,6 @@ use Rattle.symbology.specs.Shuffle.{drawnPlace, exchanged, shuffledFirst, shuff
 use Rattle.symbology.specs.Matrix.{columnOrder, matrixA, checkOf, checksOf}
 use Rattle.symbology.specs.Rule.{bitSum, unmet, unmetCount, unmetAt, metAt, isSuspect, suspect, turned, ends, repairs, afterTurns, repairsOf, lastWord, stuck}
 use Rattle.symbology.specs.Codeword.{isSum, checkColumns, isCheckColumn, messageColumns, carries, words, firstWord, codeword, messageBits}
-use Rattle.symbology.specs.Modes.{modeWidth, codeWidth, endNumber}
 use Rattle.symbology.specs.Stream.{readCode, readCodes, decode, byteRuns, byteStream}
 use Rattle.symbology.specs.Net.{withEndMark, upToLastOne, streamIn, stuffing}
 use Rattle.symbology.specs.Placement.{patternCell, cellOf, isData, columnData, rank, maskGenerators, maskAt, dataModule, onCell, moduleAt, filled, cellBits, bitsAt, sampled, firstBadModule}
@@ -95,7 +94,7 @@ matrix : ℕ → ℕ → ℕ → List ℕ
 matrix a b c = set (set (set (replicate 441 0) 0 a) 198 b) 419 c
 
 read : List ℕ → ReadAnswer
-unfolding written bits anyOne allHold rangeTests inRange badEntry badAt entryVerdict listVerdict listNumber listPlace unshuffledFirst unshuffled unmetAt metAt isSuspect suspect turned ends repairs afterTurns repairsOf lastWord stuck messageBits modeWidth codeWidth endNumber readCode readCodes decode upToLastOne streamIn cellBits bitsAt sampled firstBadModule firstOf sizeTests bufferTests frontTests receivedBits sameBits wrongStuffing checksFor messageBitsFor answerFromNet answerFromAccepted answerFromReceived answerFromMatrix readAnswer
+unfolding written bits anyOne allHold rangeTests inRange badEntry badAt entryVerdict listVerdict listNumber listPlace unshuffledFirst unshuffled unmetAt metAt isSuspect suspect turned ends repairs afterTurns repairsOf lastWord stuck messageBits readCode readCodes decode upToLastOne streamIn cellBits bitsAt sampled firstBadModule firstOf sizeTests bufferTests frontTests receivedBits sameBits wrongStuffing checksFor messageBitsFor answerFromNet answerFromAccepted answerFromReceived answerFromMatrix readAnswer
 read matrix =
     let l = reserved in
     let m = matrix in

@@ -125,20 +125,20 @@ fn mask_at(p: Params, c: usize, r: usize) -> u8
 
 // ---- the bits of a module, one to a byte, the first bit the highest
 
-// The colour index that n bits write.
-fn colour_in(bits: &[u8], at: usize, n: usize) -> u8
+// The number that n bits write: a colour index before its mask.
+fn unmasked_in(bits: &[u8], at: usize, n: usize) -> u8
     requires { ⌜ (at + n ≤ length (now bits)) × (n ≤ 8) ⌝ }
     ensures { λ r. ⌜ r ≡ value (take n (drop at (now (bits .entry)))) ⌝ }
 {
     narrow(bitfield::bits_value(bits, at, n))
 }
 
-// Stores the n lowest bits of a colour index.
-fn put_colour(out: &mut [u8], at: usize, n: usize, colour: u8)
+// Stores the n lowest bits of a colour index whose mask is undone.
+fn put_unmasked(out: &mut [u8], at: usize, n: usize, index: u8)
     requires { ⌜ at + n ≤ length (now out) ⌝ }
-    ensures { λ _. ⌜ now (out .exit) ≡ sets (now (out .entry)) at (bits n colour) ⌝ }
+    ensures { λ _. ⌜ now (out .exit) ≡ sets (now (out .entry)) at (bits n index) ⌝ }
 {
-    bitfield::put_bits(out, at, n, colour as usize);
+    bitfield::put_bits(out, at, n, index as usize);
 }
 
 // ---- filling
@@ -166,7 +166,7 @@ fn fill_module(
         return k;
     }
     let depth = depth_of(p);
-    matrix[at] = colour_in(bits, depth * k, depth) ^ mask;
+    matrix[at] = unmasked_in(bits, depth * k, depth) ^ mask;
     k + 1
 }
 
@@ -231,7 +231,7 @@ fn sample_module(
         return k;
     }
     let depth = depth_of(p);
-    put_colour(out, depth * k, depth, matrix[at] ^ mask_at(p, c, r));
+    put_unmasked(out, depth * k, depth, matrix[at] ^ mask_at(p, c, r));
     k + 1
 }
 

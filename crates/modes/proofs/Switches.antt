@@ -17,7 +17,7 @@ unfolding switchOf
 after-character m v h = rw (lt-ltb v (characterCount m) h)
 
 -- a value past the characters is a switch
-pub direct : (m : Mode) (v : ℕ) → characterCount m ≤ v → switchOf m Latched v ≡ getD (directSwitches m) (v - characterCount m) Undefined
+direct : (m : Mode) (v : ℕ) → characterCount m ≤ v → switchOf m Latched v ≡ getD (directSwitches m) (v - characterCount m) Undefined
 unfolding switchOf
 direct m v h = rw (le-ltb v (characterCount m) h)
 

@@ -3,7 +3,7 @@
 use symbology::Expected;
 use symbology::Mode;
 use symbology::ModeAnswer;
-ghost use Prim.Native.Nat.{_<_, _^_};
+ghost use Prim.Native.Nat.{ℕ, _<_, _^_};
 ghost use mathlib.Core.Path.{_≡_};
 ghost use Rattle.symbology.specs.Modes.{modeWidth, codeWidth, switchOf, modeNumber, endNumber};
 ghost use Rattle.symbology.specs.declared.Mode.the-variants.{Upper, Lower, Numeric, Alphanumeric};
@@ -41,20 +41,6 @@ pub fn code_width(m: Mode, e: Expected) -> usize
 
 // ---- switches
 
-// Mode m from the next code on.
-fn latch(m: Mode) -> ModeAnswer
-    ensures { λ r. ⌜ r ≡ Next m Latched ⌝ }
-{
-    ModeAnswer::Next(m, Expected::Latched)
-}
-
-// Mode m, in which a code of another kind comes first.
-fn shift(m: Mode, e: Expected) -> ModeAnswer
-    ensures { λ r. ⌜ r ≡ Next m e ⌝ }
-{
-    ModeAnswer::Next(m, e)
-}
-
 // Tables 13 to 16, "Direct", and the value MS: what a code of a latched mode does.
 
 // Table 13.
@@ -62,12 +48,12 @@ fn upper_switch(v: usize) -> ModeAnswer
     ensures { λ r. ⌜ r ≡ switchOf Upper Latched v ⌝ }
 {
     match v {
-        0..=26 => latch(Mode::Upper),
-        27 => shift(Mode::Upper, Expected::Punctuation),
-        28 => latch(Mode::Lower),
-        29 => latch(Mode::Numeric),
-        30 => latch(Mode::Alphanumeric),
-        31 => shift(Mode::Upper, Expected::MoreSwitches),
+        0..=26 => ModeAnswer::Next(Mode::Upper, Expected::Latched),
+        27 => ModeAnswer::Next(Mode::Upper, Expected::Punctuation),
+        28 => ModeAnswer::Next(Mode::Lower, Expected::Latched),
+        29 => ModeAnswer::Next(Mode::Numeric, Expected::Latched),
+        30 => ModeAnswer::Next(Mode::Alphanumeric, Expected::Latched),
+        31 => ModeAnswer::Next(Mode::Upper, Expected::MoreSwitches),
         _ => ModeAnswer::Undefined,
     }
 }
@@ -77,12 +63,12 @@ fn lower_switch(v: usize) -> ModeAnswer
     ensures { λ r. ⌜ r ≡ switchOf Lower Latched v ⌝ }
 {
     match v {
-        0..=26 => latch(Mode::Lower),
-        27 => shift(Mode::Lower, Expected::Punctuation),
-        28 => shift(Mode::Lower, Expected::Capital),
-        29 => latch(Mode::Numeric),
-        30 => latch(Mode::Alphanumeric),
-        31 => shift(Mode::Lower, Expected::MoreSwitches),
+        0..=26 => ModeAnswer::Next(Mode::Lower, Expected::Latched),
+        27 => ModeAnswer::Next(Mode::Lower, Expected::Punctuation),
+        28 => ModeAnswer::Next(Mode::Lower, Expected::Capital),
+        29 => ModeAnswer::Next(Mode::Numeric, Expected::Latched),
+        30 => ModeAnswer::Next(Mode::Alphanumeric, Expected::Latched),
+        31 => ModeAnswer::Next(Mode::Lower, Expected::MoreSwitches),
         _ => ModeAnswer::Undefined,
     }
 }
@@ -92,10 +78,10 @@ fn numeric_switch(v: usize) -> ModeAnswer
     ensures { λ r. ⌜ r ≡ switchOf Numeric Latched v ⌝ }
 {
     match v {
-        0..=12 => latch(Mode::Numeric),
-        13 => shift(Mode::Numeric, Expected::Punctuation),
-        14 => latch(Mode::Upper),
-        15 => shift(Mode::Numeric, Expected::MoreSwitches),
+        0..=12 => ModeAnswer::Next(Mode::Numeric, Expected::Latched),
+        13 => ModeAnswer::Next(Mode::Numeric, Expected::Punctuation),
+        14 => ModeAnswer::Next(Mode::Upper, Expected::Latched),
+        15 => ModeAnswer::Next(Mode::Numeric, Expected::MoreSwitches),
         _ => ModeAnswer::Undefined,
     }
 }
@@ -105,8 +91,8 @@ fn alphanumeric_switch(v: usize) -> ModeAnswer
     ensures { λ r. ⌜ r ≡ switchOf Alphanumeric Latched v ⌝ }
 {
     match v {
-        0..=62 => latch(Mode::Alphanumeric),
-        63 => shift(Mode::Alphanumeric, Expected::MoreSwitches),
+        0..=62 => ModeAnswer::Next(Mode::Alphanumeric, Expected::Latched),
+        63 => ModeAnswer::Next(Mode::Alphanumeric, Expected::MoreSwitches),
         _ => ModeAnswer::Undefined,
     }
 }
@@ -127,8 +113,8 @@ fn extended_switch(m: Mode, v: usize) -> ModeAnswer
     ensures { λ r. ⌜ r ≡ switchOf m MoreSwitches v ⌝ }
 {
     match v {
-        0 => shift(m, Expected::ShortCount),
-        1 => shift(m, Expected::Mixed),
+        0 => ModeAnswer::Next(m, Expected::ShortCount),
+        1 => ModeAnswer::Next(m, Expected::Mixed),
         2 => third_switch(m),
         3 => fourth_switch(m),
         _ => ModeAnswer::Undefined,
@@ -141,9 +127,9 @@ fn third_switch(m: Mode) -> ModeAnswer
 {
     match m {
         Mode::Upper => ModeAnswer::Eci,
-        Mode::Lower => latch(Mode::Upper),
-        Mode::Numeric => shift(Mode::Numeric, Expected::Capital),
-        Mode::Alphanumeric => shift(Mode::Alphanumeric, Expected::Punctuation),
+        Mode::Lower => ModeAnswer::Next(Mode::Upper, Expected::Latched),
+        Mode::Numeric => ModeAnswer::Next(Mode::Numeric, Expected::Capital),
+        Mode::Alphanumeric => ModeAnswer::Next(Mode::Alphanumeric, Expected::Punctuation),
     }
 }
 
@@ -154,8 +140,8 @@ fn fourth_switch(m: Mode) -> ModeAnswer
     match m {
         Mode::Upper => ModeAnswer::Fnc1,
         Mode::Lower => ModeAnswer::EndOfMessage,
-        Mode::Numeric => latch(Mode::Lower),
-        Mode::Alphanumeric => latch(Mode::Upper),
+        Mode::Numeric => ModeAnswer::Next(Mode::Lower, Expected::Latched),
+        Mode::Alphanumeric => ModeAnswer::Next(Mode::Upper, Expected::Latched),
     }
 }
 
@@ -164,7 +150,7 @@ fn capital_switch(m: Mode, v: usize) -> ModeAnswer
     ensures { λ r. ⌜ r ≡ switchOf m Capital v ⌝ }
 {
     if v < 27 {
-        return latch(m);
+        return ModeAnswer::Next(m, Expected::Latched);
     }
     ModeAnswer::Undefined
 }
@@ -174,19 +160,19 @@ fn short_count(m: Mode, v: usize) -> ModeAnswer
     ensures { λ r. ⌜ r ≡ switchOf m ShortCount v ⌝ }
 {
     if v == 0 {
-        return shift(m, Expected::LongCount);
+        return ModeAnswer::Next(m, Expected::LongCount);
     }
-    shift(m, Expected::Byte(v - 1))
+    ModeAnswer::Next(m, Expected::Byte(v - 1))
 }
 
-// A byte of a run with k more behind it.
-fn after_byte(m: Mode, k: usize, v: usize) -> ModeAnswer
-    ensures { λ r. ⌜ r ≡ switchOf m (Byte k) v ⌝ }
+// A byte of a run with k more behind it, whatever its value.
+fn after_byte(m: Mode, k: usize) -> ModeAnswer
+    ensures { λ r. ⌜ ((v : ℕ) → r ≡ switchOf m (Byte k) v) ⌝ }
 {
     if k == 0 {
-        return latch(m);
+        return ModeAnswer::Next(m, Expected::Latched);
     }
-    shift(m, Expected::Byte(k - 1))
+    ModeAnswer::Next(m, Expected::Byte(k - 1))
 }
 
 // What the code of value v does to the mode.
@@ -196,13 +182,13 @@ pub fn switch_of(m: Mode, e: Expected, v: usize) -> ModeAnswer
 {
     match e {
         Expected::Latched => direct_switch(m, v),
-        Expected::Punctuation => latch(m),
-        Expected::Mixed => latch(m),
+        Expected::Punctuation => ModeAnswer::Next(m, Expected::Latched),
+        Expected::Mixed => ModeAnswer::Next(m, Expected::Latched),
         Expected::Capital => capital_switch(m, v),
         Expected::MoreSwitches => extended_switch(m, v),
         Expected::ShortCount => short_count(m, v),
-        Expected::LongCount => shift(m, Expected::Byte(v + 14)),
-        Expected::Byte(k) => after_byte(m, k, v),
+        Expected::LongCount => ModeAnswer::Next(m, Expected::Byte(v + 14)),
+        Expected::Byte(k) => after_byte(m, k),
     }
 }
 

@@ -10,7 +10,7 @@ use lib.Seq.{take-at, sets, length-sets, sets-eq}
 use Rattle.pieces.specs.Pieces.{StoredAt}
 
 -- two runs of stores, one behind the other, are one
-pub sets-append : (l : List ℕ) (i : ℕ) (a b : List ℕ) → sets (sets l i a) (i + length a) b ≡ sets l i (a ++ b)
+sets-append : (l : List ℕ) (i : ℕ) (a b : List ℕ) → sets (sets l i a) (i + length a) b ≡ sets l i (a ++ b)
 sets-append l i [] b = rw (add-zero i)
 sets-append l i (x ∷ a) b = rw (add-suc i (length a), ← suc-add i (length a)) (sets-append (set l i x) (suc i) a b)
 

@@ -1,6 +1,6 @@
 -- The answer from net bits, the tests 11 to 14, and the message buffer at exit.
 -- Assumes nothing.
-use Prim.Native.Nat.{ℕ, _+_, _-_, _≤_, _<_}
+use Prim.Native.Nat.{ℕ, _-_, _≤_, _<_}
 use mathlib.Core.Path.{_≡_, refl, sym, ap, _∙_}
 use mathlib.Core.Bool.{true}
 use mathlib.Core.List.{List, [], _∷_, _++_}
@@ -36,7 +36,7 @@ pub record Counted (net : List ℕ) (end : ℕ) (last : List ℕ) (r : StreamAns
   pub first : StreamRead (decode (take (end - 1) net)) [] last r
 
 -- the bits before the end mark are the stream
-pub stream-is : (net : List ℕ) {end : ℕ} → end ≡ upToLastOne net → take (end - 1) net ≡ streamIn net
+stream-is : (net : List ℕ) {end : ℕ} → end ≡ upToLastOne net → take (end - 1) net ≡ streamIn net
 unfolding streamIn
 stream-is net e = rw e
 

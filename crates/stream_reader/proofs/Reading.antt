@@ -17,9 +17,10 @@ use Rattle.symbology.specs.Bits.{value}
 use Rattle.symbology.specs.Modes.{codeWidth, switchOf, bytesOf, modeNumber, endNumber}
 use Rattle.symbology.specs.Stream.{Decoded, decode}
 use Rattle.characters.specs.declared.CodeBytes.{CodeBytes}
-use Rattle.characters.specs.CodeBytes.{bytesIn}
+use Rattle.characters.specs.Bytes.{codeBytes, bytesIn}
+use Rattle.characters.proofs.Bytes.{bytes-back}
 use Rattle.laws.proofs.Bits.{value-take}
-use Rattle.laws.proofs.Stream.{readFrom, readOn, decode-from, read-step, read-short, bytes-few}
+use Rattle.laws.proofs.Stream.{readFrom, readOn, decode-from, read-step, read-short, bytes-three, bytes-few}
 use Rattle.pieces.specs.Pieces.{StoredAt}
 use Rattle.pieces.proofs.Pieces.{stored-none, same-piece, joined}
 use Rattle.stream_reader.specs.Reading.{StreamRead}
@@ -41,7 +42,7 @@ pub record Coded (stream after : List ℕ) (m : Mode) (e : Expected) (at n w v :
   pub width : w ≡ codeWidth m e
   pub whole : w ≤ length stream - at
   pub number : v ≡ value (take w (drop at stream))
-  pub bytes : bytesIn b ≡ bytesOf m e v
+  pub bytes : b ≡ codeBytes (bytesOf m e v)
   pub piece : StoredAt (bytesIn b) n after later n′
 
 -- `Next` is variant 0 of a mode answer, and none of the others
@@ -80,8 +81,11 @@ module _ {stream before after : List ℕ} {m : Mode} {e : Expected} {at n : ℕ}
         s .same ∙ read-step m e (drop at stream) (s .read) whole
         ∙ rw (sym (t .width), sym (t .number), drop-drop w at stream)
 
+    bytes-are : bytesIn b ≡ bytesOf m e v
+    bytes-are = ap bytesIn (t .bytes) ∙ bytes-back (bytesOf m e v) (bytes-three m e v)
+
     bytes-stored : StoredAt (s .read ++ bytesOf m e v) 0 before later n′
-    bytes-stored = joined (s .stored) (same-piece (t .bytes) (t .piece))
+    bytes-stored = joined (s .stored) (same-piece bytes-are (t .piece))
 
     pub stands-next : (m′ : Mode) (e′ : Expected) → switchOf m e v ≡ Next m′ e′ → Stands stream before m′ e′ (at + w) n′ later
     stands-next m′ e′ a =
@@ -90,7 +94,7 @@ module _ {stream before after : List ℕ} {m : Mode} {e : Expected} {at n : ℕ}
           same = code-read ∙ rw a;
           stored = bytes-stored;
           within = omega (arith, t .whole, s .within);
-          few = omega (arith, s .few, t .piece .place, ap length (t .bytes), bytes-few m e v, t .width);
+          few = omega (arith, s .few, t .piece .place, ap length bytes-are, bytes-few m e v, t .width);
         }
 
     pub stands-stop : {number : ℕ} (a : ModeAnswer) → a ≡ switchOf m e v → ((m′ : Mode) (e′ : Expected) → a ≡ Next m′ e′ → ⊥)

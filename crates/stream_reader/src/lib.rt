@@ -10,7 +10,7 @@ use symbology::ReadAnswer;
 ghost use Prim.Native.Nat.{_<_, _^_};
 ghost use mathlib.Core.Path.{_≡_};
 ghost use lib.ListN.{length};
-ghost use Rattle.characters.specs.CodeBytes.{bytesIn};
+ghost use Rattle.characters.specs.Bytes.{bytesIn};
 ghost use Rattle.pieces.specs.Pieces.{StoredAt};
 ghost use Rattle.stream_reader.specs.Reading.{StreamRead};
 ghost use Rattle.symbology.specs.Stream.{decode};
@@ -115,19 +115,19 @@ pub fn read_net(net: &[u8], repairs: usize, unmet: usize, message: &mut [u8]) ->
     if end == 0 {
         return refusal(11, repairs, unmet);
     }
-    let last = end - 1;
-    let counted = read_stream(&net[..last], &mut message[..0]);
-    if counted.number != 0 {
-        return refusal(counted.number, repairs, unmet);
+    let mark = end - 1;
+    let first = read_stream(&net[..mark], &mut message[..0]);
+    if first.number != 0 {
+        return refusal(first.number, repairs, unmet);
     }
-    if message.len() < counted.count {
+    if message.len() < first.count {
         return refusal(14, repairs, unmet);
     }
-    let stored = read_stream(&net[..last], message);
+    let second = read_stream(&net[..mark], message);
     ReadAnswer {
         number: 0,
         place: 0,
-        length: stored.count,
+        length: second.count,
         repairs,
         unmet,
     }

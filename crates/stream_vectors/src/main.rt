@@ -1,6 +1,6 @@
-// Runs streams of known content. Each line of standard input is one of three kinds, by its first
-// byte: `#`, a comment; `r`, net bits to read, of which only the digits 0 and 1 count; `w`, a message
-// to write, from the third byte on.
+// Runs streams of known content. Each line of standard input, of at most 1,024 bytes, is one of three
+// kinds: `#`, a comment; `r:`, net bits to read, in which only the digits 0 and 1 count; `w:`, a
+// message to write.
 //
 // A read prints document 01's number, the length and the message, for which there is a buffer of 64
 // bytes. A write prints the length of the stream, then the number of test 6, once where there are just

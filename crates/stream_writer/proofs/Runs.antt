@@ -1,17 +1,17 @@
 -- The pieces of a run and of a stream, stored one behind the other.
 -- Assumes nothing.
-use Prim.Native.Nat.{ℕ, _+_, _-_, _*_, _≤_, _<_}
-use mathlib.Core.Path.{_≡_, refl, sym, ap, _∙_}
+use Prim.Native.Nat.{ℕ, _+_, _-_, _≤_, _<_}
+use mathlib.Core.Path.{_≡_, refl, sym, _∙_}
 use mathlib.Core.List.{List, _++_}
 use native.Mathlib.Decide.{decLt}
 use native.Mathlib.Numerals.{add-one}
 use native.Mathlib.Omega.{arith}
-use lib.ListN.{length, getD, take, drop, length-append, length-drop, drop-of-length-le}
+use lib.ListN.{length, getD, take, drop, length-drop, drop-of-length-le}
 use lib.Seq.{take-all, drop-cons, drop-drop, sets}
 use Rattle.symbology.specs.Bits.{bits}
 use Rattle.symbology.specs.Stream.{byteBits, runCount, byteRun, byteStream}
 use Rattle.laws.proofs.Bits.{length-bits}
-use Rattle.laws.proofs.ByteMode.{count-short, count-long, length-bytes, stream-first}
+use Rattle.laws.proofs.ByteMode.{stream-first}
 use Rattle.pieces.specs.Pieces.{StoredAt}
 
 -- a number stored in w bits
@@ -20,13 +20,6 @@ pub field : (w v : ℕ) {before after : List ℕ} {at next : ℕ} → next ≡ a
 field w v e stored = record { place = omega (arith, length-bits w v); stored = stored }
 
 -- ---- a run
-
--- how many bits the count has
-pub short-length : (n : ℕ) → n < 16 → length (runCount n) ≡ 4
-short-length n h = omega (arith, ap length (count-short n h), length-bits 4 n)
-
-pub long-length : (n : ℕ) → 16 ≤ n → length (runCount n) ≡ 17
-long-length n h = omega (arith, ap length (count-long n h), length-append (bits 4 0) (bits 13 (n - 15)), length-bits 4 0, length-bits 13 (n - 15))
 
 -- the bits of the next byte in front of those of the others
 pub bytes-next : (m : List ℕ) (i : ℕ) → i < length m → byteBits (drop i m) ≡ bits 8 (getD m i 0) ++ byteBits (drop (i + 1) m)
@@ -37,12 +30,6 @@ bytes-next m i h = rw (add-one i, drop-cons m i 0 h)
 pub run-pieces : (m : List ℕ) → bits 7 124 ++ runCount (length m) ++ byteBits m ≡ byteRun m
 unfolding byteRun bits
 run-pieces m = refl
-
-pub run-length : (m : List ℕ) → length (byteRun m) ≡ 7 + length (runCount (length m)) + 8 * length m
-run-length m =
-    let head : List ℕ = bits 7 124 ++ runCount (length m) in
-    omega
-    (arith, ap length (run-pieces m), length-append head (byteBits m), length-append (bits 7 124) (runCount (length m)), length-bits 7 124, length-bytes m)
 
 -- ---- a stream
 

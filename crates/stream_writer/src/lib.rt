@@ -6,7 +6,7 @@ ghost use Prim.Native.Nat.{_+_, _*_, _≤_, _<_, _^_};
 ghost use mathlib.Core.Path.{_≡_};
 ghost use lib.ListN.{length};
 ghost use Rattle.pieces.specs.Pieces.{StoredAt};
-ghost use Rattle.symbology.specs.Stream.{byteBits, runCount, byteRun, byteStream};
+ghost use Rattle.symbology.specs.Stream.{longestRun, byteBits, runCount, byteRun, byteStream};
 ghost use Rattle.symbology.specs.Net.{withEndMark, exceeds};
 
 // The greatest length of a run, 15 + 8,191 bytes.
@@ -63,7 +63,7 @@ fn write_bytes(out: &mut [u8], at: usize, bytes: &[u8]) -> usize
 
 // The count of a run of n bytes: short from 1 to 15 and long above.
 fn write_count(out: &mut [u8], at: usize, n: usize) -> usize
-    requires { ⌜ (n ≤ 8206) × (at + length (runCount n) ≤ length (now out)) ⌝ }
+    requires { ⌜ (n ≤ longestRun) × (at + length (runCount n) ≤ length (now out)) ⌝ }
     ensures { λ r. ⌜ StoredAt (runCount n) at (now (out .entry)) (now (out .exit)) r ⌝ }
 {
     if n < 16 {
@@ -77,7 +77,7 @@ fn write_count(out: &mut [u8], at: usize, n: usize) -> usize
 
 // A run: the switches 11111 and 00 as one number, the count, the bytes.
 fn write_run(out: &mut [u8], at: usize, bytes: &[u8]) -> usize
-    requires { ⌜ (length (now bytes) ≤ 8206) × (at + length (byteRun (now bytes)) ≤ length (now out)) ⌝ }
+    requires { ⌜ (length (now bytes) ≤ longestRun) × (at + length (byteRun (now bytes)) ≤ length (now out)) ⌝ }
     ensures { λ r. ⌜ StoredAt (byteRun (now (bytes .entry))) at (now (out .entry)) (now (out .exit)) r ⌝ }
 {
     bitfield::put_bits(out, at, 7, 124);
@@ -88,7 +88,7 @@ fn write_run(out: &mut [u8], at: usize, bytes: &[u8]) -> usize
 // Where the run that starts at byte `from` of n bytes ends.
 fn run_end(from: usize, n: usize) -> usize
     requires { ⌜ from < n ⌝ }
-    ensures { λ r. ⌜ (from < r) × (r ≤ n) × (r ≤ from + 8206) × (r < n → r ≡ from + 8206) ⌝ }
+    ensures { λ r. ⌜ (from < r) × (r ≤ n) × (r ≤ from + longestRun) × (r < n → r ≡ from + longestRun) ⌝ }
 {
     if LONGEST_RUN < n - from {
         return from + LONGEST_RUN;

@@ -16,7 +16,6 @@ use Rattle.symbology.specs.Reserved.{listVerdict, entryVerdict, listNumb
 use Rattle.symbology.specs.Capacity.{bitsPerModule, patternModules, dataModules, asBits, capacity, sizesOf}
 use Rattle.symbology.specs.Place.{scaled, rawPlace, placeOf}
 use Rattle.symbology.specs.Rule.{bitSum, unmet, unmetCount, unmetAt, metAt, isSuspect, suspect, turned, ends, repairs, afterTurns, repairsOf, lastWord, stuck}
-use Rattle.symbology.specs.Modes.{modeWidth, codeWidth, endNumber}
 use Rattle.symbology.specs.Stream.{readCode, readCodes, decode, byteRuns, byteStream, byteBits, runCount, byteRun}
 use Rattle.symbology.specs.Net.{upToLastOne, streamIn, stuffing, exceeds, withEndMark}
 use Rattle.symbology.specs.Tests.{firstOf, sizeTests, bufferTests, frontTests}
@@ -119,5 +118,5 @@ points =
     ∷ []
 
 pub all-points : T (allHold points)
-unfolding allHold lowest tabulate has value bits anyOne rangeTests inRange coreTable coresOf innerPatterns listVerdict entryVerdict listNumber listPlace bitsPerModule patternModules dataModules asBits capacity sizesOf scaled rawPlace placeOf mul div ofInt toUnsigned bitSum unmet unmetCount unmetAt metAt isSuspect suspect turned ends repairs afterTurns repairsOf lastWord stuck modeWidth codeWidth endNumber readCode readCodes decode byteRuns byteStream upToLastOne streamIn stuffing firstOf sizeTests bufferTests frontTests writeTests writeAnswer sameBits answerFromNet readAnswer joinFrom nearCore finder patternOf inSquares colourIn meeting patternAt covered patternColour entryAt firstEntry badEntry badAt withEndMark byteBits runCount byteRun
+unfolding allHold lowest tabulate has value bits anyOne rangeTests inRange coreTable coresOf innerPatterns listVerdict entryVerdict listNumber listPlace bitsPerModule patternModules dataModules asBits capacity sizesOf scaled rawPlace placeOf mul div ofInt toUnsigned bitSum unmet unmetCount unmetAt metAt isSuspect suspect turned ends repairs afterTurns repairsOf lastWord stuck readCode readCodes decode byteRuns byteStream upToLastOne streamIn stuffing firstOf sizeTests bufferTests frontTests writeTests writeAnswer sameBits answerFromNet readAnswer joinFrom nearCore finder patternOf inSquares colourIn meeting patternAt covered patternColour entryAt firstEntry badEntry badAt withEndMark byteBits runCount byteRun
 all-points = tt

@@ -14,14 +14,14 @@ use Rattle.symbology.specs.declared.ModeAnswer.the-variants.{Next, EndOf
 use Rattle.symbology.specs.Characters.{upperCharacters, lowerCharacters, numericCharacters, punctuationCharacters, mixedCharacters, alphanumericCharacters, characterBytes}
 
 -- the bits of a code of a latched mode
-unfoldable pub modeWidth : Mode → ℕ
+abbrev pub modeWidth : Mode → ℕ
 modeWidth Upper = 5
 modeWidth Lower = 5
 modeWidth Numeric = 4
 modeWidth Alphanumeric = 6
 
 -- the bits of the next code
-unfoldable pub codeWidth : Mode → Expected → ℕ
+abbrev pub codeWidth : Mode → Expected → ℕ
 codeWidth m Latched = modeWidth m
 codeWidth m Punctuation = 4
 codeWidth m Mixed = 5
@@ -87,7 +87,7 @@ bytesOf m LongCount v = []
 bytesOf m (Byte k) v = v ∷ []
 
 -- document 01's number for each case of the enum; 0 where no refusal is meant
-unfoldable pub modeNumber : ModeAnswer → ℕ
+abbrev pub modeNumber : ModeAnswer → ℕ
 modeNumber (Next m e) = 0
 modeNumber EndOfMessage = 0
 modeNumber Undefined = 12
@@ -96,7 +96,7 @@ modeNumber Fnc1 = 13
 
 -- document 01's number where the stream ends and this code was expected, with so many bits left, too few for it: a stream may end
 -- only between codes, and after a shift a character is owed
-unfoldable pub endNumber : Expected → ℕ → ℕ
+abbrev pub endNumber : Expected → ℕ → ℕ
 endNumber Latched left = cond (eqb left 0) 0 12
 endNumber Punctuation left = 12
 endNumber Mixed left = 12

@@ -1,7 +1,7 @@
 -- `characters::bytes_of` meets its contract. Assumes nothing.
 use native.Mathlib.Omega.{arith}
 use borrow.Author.Needs.{needs}
-use Rattle.symbology.specs.Modes.{codeWidth, charactersOf, bytesOf}
+use Rattle.symbology.specs.Modes.{charactersOf, bytesOf}
 use Rattle.characters.proofs.bytes_of.Statement.{statement}
 use Rattle.characters.proofs.bytes_of.Tie as tie
 
@@ -21,7 +21,6 @@ enum-told-3 : tie.Need-enum-told-3
 enum-told-3 c = search needs
 
 mixed-bytes-requires : tie.Need-mixed-bytes-requires
-unfolding codeWidth
 mixed-bytes-requires c κs = rw (c .enum-told3 .given .1) at (c .before .before .pre)
 
 enum-told-4 : tie.Need-enum-told-4
@@ -52,7 +51,6 @@ enum-told-8 : tie.Need-enum-told-8
 enum-told-8 c = search needs
 
 cast-one-byte : tie.Need-cast-one-byte
-unfolding codeWidth
 cast-one-byte c = omega (arith, rw (c .enum-told8 .given .1) at (c .before .before .pre))
 
 one-byte-requires : tie.Need-one-byte-requires

@@ -1,9 +1,10 @@
 -- `characters::latched_bytes` meets its contract. Assumes nothing.
-use mathlib.Core.Path.{refl, _∙_}
+use mathlib.Core.Path.{refl, ap, _∙_}
 use borrow.Author.Needs.{needs}
 use Rattle.symbology.specs.Ranges.{tabulate}
 use Rattle.symbology.specs.Characters.{upperCharacters, lowerCharacters, numericCharacters, alphanumericCharacters}
 use Rattle.symbology.specs.Modes.{charactersOf}
+use Rattle.characters.specs.Bytes.{codeBytes}
 use Rattle.characters.proofs.Columns.{column, isAscii}
 use Rattle.characters.proofs.latched_bytes.Statement.{statement}
 use Rattle.characters.proofs.latched_bytes.Tie as tie
@@ -47,22 +48,22 @@ character-requires-4 c κs = search needs
 returns : tie.Need-returns
 unfolding charactersOf upperCharacters tabulate isAscii
 returns c =
-    rw (c .before .before .enum-told .given .1) (c .character .ensures ∙ column _ refl (c .before .before .before .before .args .v))
+    rw (c .before .before .enum-told .given .1) (c .character .ensures ∙ ap codeBytes (column _ refl (c .before .before .before .before .args .v)))
 
 returns-2 : tie.Need-returns-2
 unfolding charactersOf lowerCharacters tabulate isAscii
 returns-2 c =
-    rw (c .before .before .enum-told2 .given .1) (c .character2 .ensures ∙ column _ refl (c .before .before .before .before .args .v))
+    rw (c .before .before .enum-told2 .given .1) (c .character2 .ensures ∙ ap codeBytes (column _ refl (c .before .before .before .before .args .v)))
 
 returns-3 : tie.Need-returns-3
 unfolding charactersOf numericCharacters tabulate isAscii
 returns-3 c =
-    rw (c .before .before .enum-told3 .given .1) (c .character3 .ensures ∙ column _ refl (c .before .before .before .before .args .v))
+    rw (c .before .before .enum-told3 .given .1) (c .character3 .ensures ∙ ap codeBytes (column _ refl (c .before .before .before .before .args .v)))
 
 returns-4 : tie.Need-returns-4
 unfolding charactersOf alphanumericCharacters tabulate isAscii
 returns-4 c =
-    rw (c .before .before .enum-told4 .given .1) (c .character4 .ensures ∙ column _ refl (c .before .before .before .before .args .v))
+    rw (c .before .before .enum-told4 .given .1) (c .character4 .ensures ∙ ap codeBytes (column _ refl (c .before .before .before .before .args .v)))
 
 pub latched-bytes-spec : {M : Type 1} → statement M
 latched-bytes-spec =

@@ -1,7 +1,8 @@
 -- `characters::mixed_bytes` meets its contract. Assumes nothing.
-use mathlib.Core.Path.{refl, _∙_}
+use mathlib.Core.Path.{refl, ap, _∙_}
 use borrow.Author.Needs.{needs}
 use Rattle.symbology.specs.Characters.{mixedCharacters}
+use Rattle.characters.specs.Bytes.{codeBytes}
 use Rattle.characters.proofs.Columns.{column-front, isAscii}
 use Rattle.characters.proofs.mixed_bytes.Statement.{statement}
 use Rattle.characters.proofs.mixed_bytes.Tie as tie
@@ -14,7 +15,7 @@ character-requires c κs = search needs
 
 returns : tie.Need-returns
 unfolding mixedCharacters isAscii
-returns c = c .character .ensures ∙ column-front _ _ refl (c .before .before .before .args .v) (c .before .before .if1 .taken)
+returns c = c .character .ensures ∙ ap codeBytes (column-front _ _ refl (c .before .before .before .args .v) (c .before .before .if1 .taken))
 
 mixed-several-requires : tie.Need-mixed-several-requires
 mixed-several-requires c κs = search needs

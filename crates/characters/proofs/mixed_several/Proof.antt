@@ -1,7 +1,8 @@
 -- `characters::mixed_several` meets its contract. Assumes nothing.
-use mathlib.Core.Path.{_∙_}
+use mathlib.Core.Path.{ap, _∙_}
 use borrow.Author.Needs.{needs}
 use Rattle.symbology.specs.Characters.{mixedCharacters, utf8, utf8Bytes, characterBytes}
+use Rattle.characters.specs.Bytes.{codeBytes}
 use Rattle.characters.proofs.Columns.{two-of}
 use Rattle.characters.proofs.mixed_several.Statement.{statement}
 use Rattle.characters.proofs.mixed_several.Tie as tie
@@ -31,7 +32,7 @@ two-bytes-requires c κs = search needs
 returns-2 : tie.Need-returns-2
 returns-2 c =
     let s = c .before .before .before .before .before .before in
-    c .two-bytes .ensures ∙ two-of (s .args .v) (s .pre .0) (s .pre .1) (c .before .before .before .if1 .left)
+    c .two-bytes .ensures ∙ ap codeBytes (two-of (s .args .v) (s .pre .0) (s .pre .1) (c .before .before .before .if1 .left))
 
 pub mixed-several-spec : {M : Type 1} → statement M
 mixed-several-spec =

@@ -1,7 +1,8 @@
 -- `characters::punctuation_bytes` meets its contract. Assumes nothing.
-use mathlib.Core.Path.{refl, _∙_}
+use mathlib.Core.Path.{refl, ap, _∙_}
 use borrow.Author.Needs.{needs}
 use Rattle.symbology.specs.Characters.{punctuationCharacters}
+use Rattle.characters.specs.Bytes.{codeBytes}
 use Rattle.characters.proofs.Columns.{column, isAscii}
 use Rattle.characters.proofs.punctuation_bytes.Statement.{statement}
 use Rattle.characters.proofs.punctuation_bytes.Tie as tie
@@ -14,7 +15,7 @@ character-requires c κs = search needs
 
 returns : tie.Need-returns
 unfolding punctuationCharacters isAscii
-returns c = c .character .ensures ∙ column _ refl (c .before .before .args .v)
+returns c = c .character .ensures ∙ ap codeBytes (column _ refl (c .before .before .args .v))
 
 pub punctuation-bytes-spec : {M : Type 1} → statement M
 punctuation-bytes-spec = tie.close (tie.spec slice-aggregate-character character-requires returns)

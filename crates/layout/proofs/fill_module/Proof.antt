@@ -40,13 +40,13 @@ enum-told c = search needs
 depth-of-requires : tie.Need-depth-of-requires
 depth-of-requires c κs = search needs
 
-mul-colour-in : tie.Need-mul-colour-in
-mul-colour-in c =
+mul-unmasked-in : tie.Need-mul-unmasked-in
+mul-unmasked-in c =
     let e = sym (c .before .before .before .cell-at .ensures) ∙ c .before .enum-told .given .1 in
     omega (arith, bits-there (c .before .before .before .before .before .before .before .before .before .pre .0) (c .depth-of .result) (c .depth-of .ensures .0) (c .before .before .before .before .before .before .before .before .before .pre .1) e)
 
-colour-in-requires : tie.Need-colour-in-requires
-colour-in-requires c κs =
+unmasked-in-requires : tie.Need-unmasked-in-requires
+unmasked-in-requires c κs =
     let e = sym (c .before .before .before .cell-at .ensures) ∙ c .before .enum-told .given .1 in
     (bits-there (c .before .before .before .before .before .before .before .before .before .pre .0) (c .depth-of .result) (c .depth-of .ensures .0) (c .before .before .before .before .before .before .before .before .before .pre .1) e, omega (arith, c .depth-of .ensures .1))
 
@@ -66,7 +66,7 @@ returns-2 c =
     let a = c .before .before .before .before .before .before .before .before .before .before .args in
     let w = c .before .before .before .before .before .before .before .before .before .before .pre .0 in
     let e = sym (c .before .before .before .before .cell-at .ensures) ∙ c .before .before .enum-told .given .1 in
-    (data-next w e, ap₂ (set (a .matrix .now)) (c .before .before .before .before .before .before .index-of .ensures .0) (data-module w (a .bits .now) (c .before .depth-of .result) (c .colour-in .result) (c .before .before .before .before .before .mask-at .result) (c .before .depth-of .ensures .0) (c .colour-in .ensures) (c .before .before .before .before .before .mask-at .ensures) e))
+    (data-next w e, ap₂ (set (a .matrix .now)) (c .before .before .before .before .before .before .index-of .ensures .0) (data-module w (a .bits .now) (c .before .depth-of .result) (c .unmasked-in .result) (c .before .before .before .before .before .mask-at .result) (c .before .depth-of .ensures .0) (c .unmasked-in .ensures) (c .before .before .before .before .before .mask-at .ensures) e))
 
 pub fill-module-spec : {M : Type 1} → statement M
 fill-module-spec =
@@ -81,8 +81,8 @@ fill-module-spec =
     returns
     enum-told
     depth-of-requires
-    mul-colour-in
-    colour-in-requires
+    mul-unmasked-in
+    unmasked-in-requires
     slice-write-matrix-2
     add-result
     same-length-2

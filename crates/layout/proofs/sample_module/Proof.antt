@@ -31,21 +31,21 @@ enum-told-2 c = search needs
 depth-of-requires : tie.Need-depth-of-requires
 depth-of-requires c κs = search needs
 
-mul-put-colour : tie.Need-mul-put-colour
-mul-put-colour c =
+mul-put-unmasked : tie.Need-mul-put-unmasked
+mul-put-unmasked c =
     let e = sym (c .before .before .before .before .cell-at .ensures) ∙ c .before .before .enum-told2 .given .1 in
     omega (arith, bits-there (c .before .before .before .before .before .before .before .before .before .pre .0) (c .before .depth-of .result) (c .before .depth-of .ensures .0) (c .before .before .before .before .before .before .before .before .before .pre .1) e)
 
-shared-slice-read-put-colour : tie.Need-shared-slice-read-put-colour
-shared-slice-read-put-colour c = search needs
+shared-slice-read-put-unmasked : tie.Need-shared-slice-read-put-unmasked
+shared-slice-read-put-unmasked c = search needs
 
 mask-at-requires : tie.Need-mask-at-requires
 mask-at-requires c κs =
     let m = mask-legal (c .before .before .before .before .before .before .before .before .before .before .pre .0) (c .before .before .before .before .before .before .before .before .before .before .pre .1) in
     (m .0, omega (arith, m .1, m .2), omega (arith, m .1, m .2))
 
-put-colour-requires : tie.Need-put-colour-requires
-put-colour-requires c κs =
+put-unmasked-requires : tie.Need-put-unmasked-requires
+put-unmasked-requires c κs =
     let e = sym (c .before .before .before .before .before .before .cell-at .ensures) ∙ c .before .before .before .before .enum-told2 .given .1 in
     bits-there (c .before .before .before .before .before .before .before .before .before .before .before .pre .0) (c .before .before .before .depth-of .result) (c .before .before .before .depth-of .ensures .0) (c .before .before .before .before .before .before .before .before .before .before .before .pre .1) e
 
@@ -62,7 +62,7 @@ returns-2 c =
     let a = c .before .before .before .before .before .before .before .before .before .before .before .before .before .before .args in
     let w = c .before .before .before .before .before .before .before .before .before .before .before .before .before .before .pre .0 in
     let e = sym (c .before .before .before .before .before .before .before .before .before .cell-at .ensures) ∙ c .before .before .before .before .before .before .before .enum-told2 .given .1 in
-    (data-next w e, c .before .before .put-colour .ensures ∙ ap₂ (sets (a .out .now)) (ap (λ (n : ℕ). n * a .k) (c .before .before .before .before .before .before .depth-of .ensures .0)) (data-bits-are w (a .matrix .now) (c .before .before .before .before .before .before .depth-of .result) (c .before .before .before .before .before .before .before .before .before .before .index-of .result) (c .before .before .before .mask-at .result) (c .before .before .before .before .before .before .depth-of .ensures .0) (c .before .before .before .before .before .before .before .before .before .before .index-of .ensures .0) (c .before .before .before .mask-at .ensures) e))
+    (data-next w e, c .before .before .put-unmasked .ensures ∙ ap₂ (sets (a .out .now)) (ap (λ (n : ℕ). n * a .k) (c .before .before .before .before .before .before .depth-of .ensures .0)) (data-bits-are w (a .matrix .now) (c .before .before .before .before .before .before .depth-of .result) (c .before .before .before .before .before .before .before .before .before .before .index-of .result) (c .before .before .before .mask-at .result) (c .before .before .before .before .before .before .depth-of .ensures .0) (c .before .before .before .before .before .before .before .before .before .before .index-of .ensures .0) (c .before .before .before .mask-at .ensures) e))
 
 pub sample-module-spec : {M : Type 1} → statement M
 sample-module-spec =
@@ -74,10 +74,10 @@ sample-module-spec =
     returns
     enum-told-2
     depth-of-requires
-    mul-put-colour
-    shared-slice-read-put-colour
+    mul-put-unmasked
+    shared-slice-read-put-unmasked
     mask-at-requires
-    put-colour-requires
+    put-unmasked-requires
     add-result
     same-length
     returns-2)

@@ -1,4 +1,4 @@
--- `modes::direct_switch` meets its contract. Assumes nothing.
+-- `modes::direct_switch` meets its contract: the table of each mode. Assumes nothing.
 use borrow.Author.Needs.{needs}
 use Rattle.modes.proofs.direct_switch.Statement.{statement}
 use Rattle.modes.proofs.direct_switch.Tie as tie

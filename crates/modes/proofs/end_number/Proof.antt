@@ -1,7 +1,6 @@
 -- `modes::end_number` meets its contract. Assumes nothing.
 use borrow.Author.Tests.{eq-eqb, ne-eqb}
 use borrow.Author.Needs.{needs}
-use Rattle.symbology.specs.Modes.{endNumber}
 use Rattle.modes.proofs.end_number.Statement.{statement}
 use Rattle.modes.proofs.end_number.Tie as tie
 
@@ -9,7 +8,6 @@ enum-told : tie.Need-enum-told
 enum-told c = search needs
 
 returns : tie.Need-returns
-unfolding endNumber
 returns c = rw (c .before .enum-told .given .1, eq-eqb (c .before .before .before .args .left) 0 (c .if1 .taken))
 
 enum-told-2 : tie.Need-enum-told-2
@@ -34,36 +32,28 @@ enum-told-8 : tie.Need-enum-told-8
 enum-told-8 c = search needs
 
 returns-2 : tie.Need-returns-2
-unfolding endNumber
 returns-2 c = rw (c .before .enum-told .given .1, ne-eqb (c .before .before .before .args .left) 0 (c .if1 .left))
 
 returns-3 : tie.Need-returns-3
-unfolding endNumber
-returns-3 c = rw (c .enum-told2 .given .1)
+returns-3 c = search needs
 
 returns-4 : tie.Need-returns-4
-unfolding endNumber
-returns-4 c = rw (c .enum-told3 .given .1)
+returns-4 c = search needs
 
 returns-5 : tie.Need-returns-5
-unfolding endNumber
-returns-5 c = rw (c .enum-told4 .given .1)
+returns-5 c = search needs
 
 returns-6 : tie.Need-returns-6
-unfolding endNumber
-returns-6 c = rw (c .enum-told5 .given .1)
+returns-6 c = search needs
 
 returns-7 : tie.Need-returns-7
-unfolding endNumber
-returns-7 c = rw (c .enum-told6 .given .1)
+returns-7 c = search needs
 
 returns-8 : tie.Need-returns-8
-unfolding endNumber
-returns-8 c = rw (c .enum-told7 .given .1)
+returns-8 c = search needs
 
 returns-9 : tie.Need-returns-9
-unfolding endNumber
-returns-9 c = rw (c .enum-told8 .given .1)
+returns-9 c = search needs
 
 pub end-number-spec : {M : Type 1} → statement M
 end-number-spec =

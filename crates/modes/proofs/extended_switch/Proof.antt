@@ -1,17 +1,11 @@
--- `modes::extended_switch` meets its contract. Assumes nothing.
+-- `modes::extended_switch` meets its contract: two switches that all modes share, and two by mode. Assumes nothing.
 use Prim.Native.Nat.{_≤_}
-use mathlib.Core.Path.{_∙_, sym}
+use mathlib.Core.Path.{sym}
 use native.Mathlib.Omega.{arith}
 use borrow.Author.Needs.{needs}
 use Rattle.modes.proofs.Switches.{to-byte-mode, to-mixed-mode, past-more}
 use Rattle.modes.proofs.extended_switch.Statement.{statement}
 use Rattle.modes.proofs.extended_switch.Tie as tie
-
-shift-requires : tie.Need-shift-requires
-shift-requires c κs = search needs
-
-shift-requires-2 : tie.Need-shift-requires-2
-shift-requires-2 c κs = search needs
 
 third-switch-requires : tie.Need-third-switch-requires
 third-switch-requires c κs = search needs
@@ -20,10 +14,10 @@ fourth-switch-requires : tie.Need-fourth-switch-requires
 fourth-switch-requires c κs = search needs
 
 returns : tie.Need-returns
-returns c = rw (c .before .match .keys1) (c .shift .ensures ∙ sym (to-byte-mode (c .before .before .args .m)))
+returns c = rw (c .match .keys1) (sym (to-byte-mode (c .before .args .m)))
 
 returns-2 : tie.Need-returns-2
-returns-2 c = rw (c .before .match .keys2) (c .shift2 .ensures ∙ sym (to-mixed-mode (c .before .before .args .m)))
+returns-2 c = rw (c .match .keys2) (sym (to-mixed-mode (c .before .args .m)))
 
 returns-3 : tie.Need-returns-3
 returns-3 c = rw (c .before .match .keys3) (c .third-switch .ensures)
@@ -40,8 +34,6 @@ pub extended-switch-spec : {M : Type 1} → statement M
 extended-switch-spec =
     tie.close
     (tie.spec
-    shift-requires
-    shift-requires-2
     third-switch-requires
     fourth-switch-requires
     returns

@@ -1,7 +1,7 @@
--- `modes::switch_of` meets its contract. Assumes nothing.
+-- `modes::switch_of` meets its contract: one function for each kind of code. Assumes nothing.
 use native.Mathlib.Omega.{arith}
 use borrow.Author.Needs.{needs}
-use Rattle.symbology.specs.Modes.{codeWidth, switchOf}
+use Rattle.symbology.specs.Modes.{switchOf}
 use Rattle.modes.proofs.switch_of.Statement.{statement}
 use Rattle.modes.proofs.switch_of.Tie as tie
 
@@ -14,14 +14,8 @@ direct-switch-requires c κs = search needs
 enum-told-2 : tie.Need-enum-told-2
 enum-told-2 c = search needs
 
-latch-requires : tie.Need-latch-requires
-latch-requires c κs = search needs
-
 enum-told-3 : tie.Need-enum-told-3
 enum-told-3 c = search needs
-
-latch-requires-2 : tie.Need-latch-requires-2
-latch-requires-2 c κs = search needs
 
 enum-told-4 : tie.Need-enum-told-4
 enum-told-4 c = search needs
@@ -44,12 +38,8 @@ short-count-requires c κs = search needs
 enum-told-7 : tie.Need-enum-told-7
 enum-told-7 c = search needs
 
-add-t6 : tie.Need-add-t6
-unfolding codeWidth
-add-t6 c = omega (arith, rw (c .enum-told7 .given .1) at (c .before .before .pre))
-
-shift-requires : tie.Need-shift-requires
-shift-requires c κs = search needs
+add-t8 : tie.Need-add-t8
+add-t8 c = omega (arith, rw (c .enum-told7 .given .1) at (c .before .before .pre))
 
 enum-known-e : tie.Need-enum-known-e
 enum-known-e c = search needs
@@ -62,11 +52,11 @@ returns c = rw (c .before .enum-told .given .1) (c .direct-switch .ensures)
 
 returns-2 : tie.Need-returns-2
 unfolding switchOf
-returns-2 c = rw (c .before .enum-told2 .given .1) (c .latch .ensures)
+returns-2 c = rw (c .enum-told2 .given .1)
 
 returns-3 : tie.Need-returns-3
 unfolding switchOf
-returns-3 c = rw (c .before .enum-told3 .given .1) (c .latch2 .ensures)
+returns-3 c = rw (c .enum-told3 .given .1)
 
 returns-4 : tie.Need-returns-4
 returns-4 c = rw (c .before .enum-told4 .given .1) (c .capital-switch .ensures)
@@ -79,10 +69,10 @@ returns-6 c = rw (c .before .enum-told6 .given .1) (c .short-count .ensures)
 
 returns-7 : tie.Need-returns-7
 unfolding switchOf
-returns-7 c = rw (c .before .enum-told7 .given .1) (c .shift .ensures)
+returns-7 c = rw (c .enum-told7 .given .1)
 
 returns-8 : tie.Need-returns-8
-returns-8 c = rw (c .before .before .e .given .1) (c .after-byte .ensures)
+returns-8 c = rw (c .before .before .e .given .1) (c .after-byte .ensures (c .before .before .before .before .args .v))
 
 pub switch-of-spec : {M : Type 1} → statement M
 switch-of-spec =
@@ -91,9 +81,7 @@ switch-of-spec =
     enum-told
     direct-switch-requires
     enum-told-2
-    latch-requires
     enum-told-3
-    latch-requires-2
     enum-told-4
     capital-switch-requires
     enum-told-5
@@ -101,8 +89,7 @@ switch-of-spec =
     enum-told-6
     short-count-requires
     enum-told-7
-    add-t6
-    shift-requires
+    add-t8
     enum-known-e
     after-byte-requires
     returns

@@ -30,8 +30,8 @@ returns c =
     let a = c .before .before .before .before .before .args in
     all-zero (a .net .now) (a .repairs) (a .unmet) (a .message .now) (c .before .before .up-to-last-one .ensures) (c .before .if1 .taken) (c .refusal .ensures)
 
-sub-last : tie.Need-sub-last
-sub-last c = search needs
+sub-mark : tie.Need-sub-mark
+sub-mark c = search needs
 
 slice-aggregate-read-stream : tie.Need-slice-aggregate-read-stream
 slice-aggregate-read-stream c =
@@ -94,7 +94,7 @@ read-net-spec =
     up-to-last-one-requires
     refusal-requires
     returns
-    sub-last
+    sub-mark
     slice-aggregate-read-stream
     slice-relend-prefix-read-stream
     slice-aggregate-read-stream-2

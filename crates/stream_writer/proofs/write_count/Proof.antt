@@ -2,9 +2,9 @@
 use Prim.Native.Nat.{_-_}
 use mathlib.Core.Path.{refl, sym}
 use native.Mathlib.Omega.{arith}
-use Rattle.laws.proofs.ByteMode.{count-short, count-long}
+use Rattle.laws.proofs.ByteMode.{count-short, count-long, short-length, long-length}
 use Rattle.pieces.proofs.Pieces.{joined, same-piece}
-use Rattle.stream_writer.proofs.Runs.{field, short-length, long-length}
+use Rattle.stream_writer.proofs.Runs.{field}
 use borrow.Author.Needs.{needs}
 use Rattle.stream_writer.proofs.write_count.Statement.{statement}
 use Rattle.stream_writer.proofs.write_count.Tie as tie

@@ -1,8 +1,9 @@
 -- `stream_writer::write_run` meets its contract: its pieces are stored one behind the other. Assumes nothing.
 use mathlib.Core.Path.{refl}
 use native.Mathlib.Omega.{arith}
+use Rattle.laws.proofs.ByteMode.{run-length}
 use Rattle.pieces.proofs.Pieces.{joined, same-piece}
-use Rattle.stream_writer.proofs.Runs.{field, run-pieces, run-length}
+use Rattle.stream_writer.proofs.Runs.{field, run-pieces}
 use borrow.Author.Needs.{needs}
 use Rattle.stream_writer.proofs.write_run.Statement.{statement}
 use Rattle.stream_writer.proofs.write_run.Tie as tie

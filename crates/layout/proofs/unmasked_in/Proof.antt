@@ -1,12 +1,12 @@
--- `layout::colour_in` meets its contract. Assumes nothing.
+-- `layout::unmasked_in` meets its contract. Assumes nothing.
 use Prim.Native.Nat.{_≤_}
 use native.Mathlib.Omega.{arith}
 use lib.ListN.{drop}
 use lib.Pow.{pow-mono}
 use borrow.Author.Needs.{needs}
 use Rattle.laws.proofs.Bits.{value-take}
-use Rattle.layout.proofs.colour_in.Statement.{statement}
-use Rattle.layout.proofs.colour_in.Tie as tie
+use Rattle.layout.proofs.unmasked_in.Statement.{statement}
+use Rattle.layout.proofs.unmasked_in.Tie as tie
 
 bits-value-requires : tie.Need-bits-value-requires
 bits-value-requires c κs = search needs
@@ -20,5 +20,5 @@ narrow-requires c κs =
 returns : tie.Need-returns
 returns c = search needs
 
-pub colour-in-spec : {M : Type 1} → statement M
-colour-in-spec = tie.close (tie.spec bits-value-requires narrow-requires returns)
+pub unmasked-in-spec : {M : Type 1} → statement M
+unmasked-in-spec = tie.close (tie.spec bits-value-requires narrow-requires returns)
