@@ -47,7 +47,7 @@ fn print_interleaving(work: &mut [u8])
     requires { ⌜ length (now work) ≡ 65536 ⌝ }
 {
     lent::count_up(work, 0, 1047);
-    shuffle::shuffle_numbers(work, 0, 1047, 226759);
+    shuffle::shuffle_numbers(work, 0, 1047, shuffle::INTERLEAVING_SEED);
     let mut i = 0;
     while i < 6 {
         print_line(lent::number_at(work, 2 * i));

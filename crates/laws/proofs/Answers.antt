@@ -1,14 +1,14 @@
 -- Demand 1 about the definitions: document 01's table of numbers, row by row, gives the answers of a write and a read; which numbers,
 -- places, lengths and counts an answer can have; and what a refused call leaves as it came.
 -- Assumes nothing.
-use Prim.Native.Nat.{ℕ, suc, _*_, _≤_}
+use Prim.Native.Nat.{ℕ, suc, _-_, _*_, _≤_}
 use mathlib.Core.Path.{_≡_, refl, sym, ap, _∙_, subst⁻¹}
 use mathlib.Core.Bool.{cond, true, false, not, _||_}
 use mathlib.Core.Logic.{_⊎_, inl, inr}
 use mathlib.Core.List.{List, [], _∷_, _++_}
 use native.Mathlib.Omega.{arith}
 use lib.Dec.{eqb, ltb}
-use lib.ListN.{length, take, drop, replicate, length-append, length-drop}
+use lib.ListN.{length, take, drop, replicate, length-append, length-take, length-drop}
 use lib.Seq.{take-at, drop-at}
 use borrow.Author.Tests.{eq-eqb, ne-eqb}
 use Rattle.symbology.specs.declared.Params.{Params}
@@ -20,14 +20,14 @@ use Rattle.symbology.specs.Parameters.{inRange}
 use Rattle.symbology.specs.Reserved.{listVerdict, listNumber, listPlace}
 use Rattle.symbology.specs.Rule.{unmetCount, repairsOf, lastWord, stuck}
 use Rattle.symbology.specs.Stream.{decode, byteStream, Decoded}
-use Rattle.symbology.specs.Net.{exceeds, streamIn}
+use Rattle.symbology.specs.Net.{exceeds, upToLastOne, streamIn}
 use Rattle.symbology.specs.Placement.{firstBadModule}
 use Rattle.symbology.specs.Tests.{Row, on, firstOf, sizeTests, bufferTests, frontTests, sizesFor}
 use Rattle.symbology.specs.Write.{answer, writeTests, writeAnswer, matrixAfterWrite, isLegal, workAfter}
-use Rattle.symbology.specs.Read.{refused, counted, done, receivedBits, receivedWord, wrongStuffing, checksFor, messageBitsFor, answerFromNet, answerFromAccepted, answerFromReceived, readAnswer, messageIn, messageAfter, testsBeforeChecks}
-use Rattle.laws.proofs.Stream.{decode-number}
+use Rattle.symbology.specs.Read.{refused, counted, done, receivedBits, receivedWord, wrongStuffing, checksFor, messageBitsFor, answerFromNet, answerFromAccepted, answerFromReceived, readAnswer, messageInAccepted, messageIn, messageAfter, testsBeforeChecks}
+use Rattle.laws.proofs.Stream.{decode-number, decode-few}
 use Rattle.laws.proofs.Stages.{read-tests, read-keeps}
-use Rattle.laws.proofs.Tests.{first-append, first-keeps, first-none, front-keeps}
+use Rattle.laws.proofs.Tests.{first-append, only-row, front-each}
 
 -- ---- document 01, "Numbers returned"
 
@@ -148,6 +148,27 @@ read-length p l matrix work room =
     (λ k low high z. absurd (omega arith))
     (λ fits z. (refl, fits))
 
+-- The message of any matrix has at most Pn bytes.
+pub message-few : (p : Params) (l matrix : List ℕ) → length (messageIn p l matrix) ≤ sizesFor p l .net
+unfolding messageIn messageInAccepted streamIn
+message-few p l matrix =
+    let s : Sizes = sizesFor p l in
+    let m : List ℕ = messageBitsFor s (lastWord (checksFor s) (receivedWord p l matrix)) in
+    let net : List ℕ = take (s .net) m in
+    omega (arith, decode-few (streamIn net), length-take (upToLastOne net - 1) net, length-take (s .net) m)
+
+-- What the answers 0 to 6 have, 2 at the place of the list's fault, every answer of a write has.
+pub write-each : (Q : Answer → Type 0) (p : Params) (l message : List ℕ) (modules work : ℕ)
+    → ((n : ℕ) → n ≤ 6 → Q (answer n 0))
+    → Q (answer 2 (listPlace (listVerdict p l)))
+    → Q (writeAnswer p l message modules work)
+unfolding writeAnswer writeTests
+write-each Q p l message modules work each faulty =
+    let row6 : Row Answer = on (exceeds (length (byteStream message)) (sizesFor p l .net)) (answer 6 0) in
+    subst⁻¹ Q (first-append (frontTests answer p l modules work) (row6 ∷ []) (answer 0 0))
+    (front-each answer p l modules work Q (firstOf (row6 ∷ []) (answer 0 0)) (λ n low high. each n (omega arith)) faulty
+    (λ legal. only-row Q row6 (answer 0 0) (λ t. each 6 (omega arith)) (λ t. each 0 (omega arith))))
+
 -- number and place as document 01 has them
 pub record WriteAnswerIs (a : Answer) : Type 0 where
   pub number-most : a .number ≤ 6
@@ -155,14 +176,9 @@ pub record WriteAnswerIs (a : Answer) : Type 0 where
 
 -- A write answers 0 to 6, and its place is 0 but with 2.
 pub write-answer : (p : Params) (l message : List ℕ) (modules work : ℕ) → WriteAnswerIs (writeAnswer p l message modules work)
-unfolding writeAnswer writeTests
 write-answer p l message modules work =
-    let row6 : Row Answer = on (exceeds (length (byteStream message)) (sizesFor p l .net)) (answer 6 0) in
-    subst⁻¹ WriteAnswerIs (first-append (frontTests answer p l modules work) (row6 ∷ []) (answer 0 0))
-    (front-keeps answer p l modules work WriteAnswerIs (firstOf (row6 ∷ []) (answer 0 0))
-    (λ k place low high where-zero. record { number-most = omega arith; place-is = where-zero })
-    (first-keeps WriteAnswerIs row6 [] (answer 0 0) (λ t. record { number-most = omega arith; place-is = inr refl })
-    (subst⁻¹ WriteAnswerIs (first-none (answer 0 0)) (record { number-most = omega arith; place-is = inr refl }))))
+    write-each WriteAnswerIs p l message modules work (λ n high. record { number-most = high; place-is = inr refl })
+    (record { number-most = omega arith; place-is = inl refl })
 
 -- ---- the buffers at exit
 

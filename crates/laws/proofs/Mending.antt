@@ -13,16 +13,18 @@ use Rattle.symbology.specs.declared.Sizes.{Sizes}
 use Rattle.symbology.specs.declared.ReadAnswer.{ReadAnswer}
 use Rattle.symbology.specs.Bits.{AllBits}
 use Rattle.symbology.specs.Shuffle.{interleavingSeed}
+use Rattle.symbology.specs.Matrix.{checkOf, checksOf}
 use Rattle.symbology.specs.Rule.{unmetCount, repairsOf, lastWord, stuck}
 use Rattle.symbology.specs.Placement.{sampled}
 use Rattle.symbology.specs.Tests.{sizesFor}
+use Rattle.symbology.specs.Write.{matrixFor}
 use Rattle.symbology.specs.Read.{counted, receivedBits, receivedWord, checksFor, answerFromAccepted, answerFromReceived, readAnswer, reachesChecks, messageIn, messageAfter}
 use Rattle.symbology.specs.Mending.{Mends}
-use Rattle.laws.proofs.Ranges.{by}
+use Rattle.laws.proofs.Ranges.{by, length-tabulate}
 use Rattle.laws.proofs.Bits.{take-bits}
 use Rattle.laws.proofs.Answers.{refused-read}
 use Rattle.laws.proofs.Stages.{accepted-counts, from-stuck, from-mended, reaches-gives}
-use Rattle.laws.proofs.Rule.{AllOnce, checks-once}
+use Rattle.laws.proofs.Rule.{AllOnce, checks-once, unmet-most}
 use Rattle.laws.proofs.Steps.{rule-steps, rule-lowers, rule-ends, rule-only, repairs-bounded, stuck-means, not-stuck, unmet-stuck}
 use Rattle.laws.proofs.Placement.{sampled-bits}
 use Rattle.laws.proofs.Shuffle.{length-unshuffled, unshuffled-every}
@@ -50,6 +52,11 @@ length-received p l matrix modules room k =
 pub symbol-once : (s : Sizes) → AllOnce (checksFor s)
 unfolding checksFor
 symbol-once s = checks-once (s .checks) (s .gross) _
+
+-- and at most K of them are unmet
+pub symbol-unmet : (s : Sizes) (w : List ℕ) → unmetCount (checksFor s) w ≤ s .checks
+unfolding checksFor checksOf
+symbol-unmet s w = omega (arith, unmet-most (checksFor s) w, length-tabulate (s .checks) (checkOf (s .gross) (matrixFor s)))
 
 -- ---- demand 3
 

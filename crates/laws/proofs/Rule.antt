@@ -133,6 +133,12 @@ unmet-change c w j o b l =
     by (has j c) (λ e. rw e (omega (arith, sum-changed c w j o l e, b j)))
     (λ e. rw e (omega (arith, sum-kept c w j e)))
 
+-- Not more checks are unmet than there are.
+pub unmet-most : (cs : List (List ℕ)) (w : List ℕ) → unmetCount cs w ≤ length cs
+unfolding unmet unmetCount
+unmet-most [] w = omega arith
+unmet-most (c ∷ cs) w = omega (arith, unmet-most cs w)
+
 -- Turning bit j changes the unmet count by the met checks that bit j stands in less the unmet ones.
 pub unmet-after : (cs : List (List ℕ)) (w : List ℕ) (j : ℕ) → AllOnce cs → AllBits w → j < length w
     → unmetCount cs (turned w j) + unmetAt cs w j ≡ unmetCount cs w + metAt cs w j

@@ -2,7 +2,7 @@
 -- the accepted word, from the net bits.
 -- Assumes nothing.
 use Prim.Native.Nat.{ℕ, _-_, _≤_, _<_}
-use mathlib.Core.Path.{_≡_, refl, sym, ap, _∙_, subst⁻¹}
+use mathlib.Core.Path.{_≡_, refl, sym, ap, ap₂, _∙_, subst⁻¹}
 use mathlib.Core.Bool.{true, false, not}
 use mathlib.Core.Logic.{_⊎_, inl, inr, ⊎-elim}
 use mathlib.Core.List.{List, [], _∷_, _++_}
@@ -10,18 +10,20 @@ use native.Mathlib.Omega.{arith}
 use lib.Dec.{eqb, ltb}
 use lib.ListN.{length, take, drop, replicate}
 use lib.Seq.{take-at, drop-at}
-use borrow.Author.Tests.{eq-eqb, eqb-true, eqb-false, ltb-false, not-true, le-ltb}
+use borrow.Author.Tests.{eq-eqb, eqb-true, eqb-false, ltb-true, ltb-false, not-true, le-ltb}
 use Rattle.symbology.specs.declared.Params.{Params}
 use Rattle.symbology.specs.declared.Sizes.{Sizes}
 use Rattle.symbology.specs.declared.ReadAnswer.{ReadAnswer}
 use Rattle.symbology.specs.Bits.{AllBytes, anyOne}
+use Rattle.symbology.specs.Reserved.{listVerdict, listPlace}
 use Rattle.symbology.specs.Rule.{unmetCount, repairsOf, lastWord, stuck}
 use Rattle.symbology.specs.Stream.{Decoded, decode, byteStream}
 use Rattle.symbology.specs.Net.{withEndMark, streamIn, stuffing}
 use Rattle.symbology.specs.Placement.{firstBadModule}
 use Rattle.symbology.specs.Tests.{Row, on, firstOf, frontTests, sizesFor}
 use Rattle.symbology.specs.Read.{refused, counted, done, receivedBits, receivedWord, sameBits, wrongStuffing, checksFor, messageBitsFor, answerFromNet, answerFromAccepted, answerFromReceived, answerFromMatrix, readAnswer, testsBeforeChecks, reachesChecks, messageInAccepted, messageIn}
-use Rattle.laws.proofs.Tests.{Legal, front-legal, first-append, first-either, first-keeps, only-row, front-keeps}
+use Rattle.symbology.proofs.Ranges.{clash, and-left, and-right}
+use Rattle.laws.proofs.Tests.{Legal, front-legal, first-append, first-either, first-keeps, only-row, front-each}
 use Rattle.laws.proofs.Stream.{decode-number}
 use Rattle.laws.proofs.ByteMode.{stream-back}
 use Rattle.laws.proofs.Net.{net-back, length-net, net-some, any-zeros}
@@ -60,8 +62,8 @@ net-keeps Q net n first room late last =
     let end : ReadAnswer = done (length (d .bytes)) n first in
     let in-code : row12 .test ≡ true → (10 ≤ d .number) × (d .number ≤ 14) = refusing (d .number) (decode-number (streamIn net)) in
     first-keeps Q row11 (row12 ∷ row14 ∷ []) end (λ t. late 11 (omega arith) (omega arith))
-    (first-keeps Q row12 (row14 ∷ []) end (λ t. late (d .number) (in-code t .0) (in-code t .1))
-    (only-row Q row14 end (λ t. late 14 (omega arith) (omega arith)) (λ t. last (ltb-false room (length (d .bytes)) t))))
+    (λ t11. first-keeps Q row12 (row14 ∷ []) end (λ t. late (d .number) (in-code t .0) (in-code t .1))
+    (λ t12. only-row Q row14 end (λ t. late 14 (omega arith) (omega arith)) (λ t. last (ltb-false room (length (d .bytes)) t))))
 
 -- ---- from the accepted word
 
@@ -150,10 +152,21 @@ received-keeps Q s w room late last =
 
 -- ---- from the matrix
 
-same-self : (bs : List ℕ) → sameBits bs bs ≡ true
+-- the comparison of test 8 holds of equal lists
+pub same-self : (bs : List ℕ) → sameBits bs bs ≡ true
 unfolding sameBits
 same-self [] = refl
 same-self (b ∷ bs) = rw (eq-eqb b b refl) (same-self bs)
+
+-- and of no others
+pub same-means : (bs cs : List ℕ) → sameBits bs cs ≡ true → bs ≡ cs
+unfolding sameBits
+same-means [] [] e = refl
+same-means [] (c ∷ cs) e = clash e refl
+same-means (b ∷ bs) [] e = clash e refl
+same-means (b ∷ bs) (c ∷ cs) e =
+    ap₂ (λ (x : ℕ) (xs : List ℕ). x ∷ xs) (eqb-true b c (and-left (eqb b c) (sameBits bs cs) e))
+    (same-means bs cs (and-right (eqb b c) (sameBits bs cs) e))
 
 -- a matrix of modules below N whose bits are a word and the stuffing bits
 pub from-matrix : (p : Params) (l matrix w : List ℕ) (room : ℕ)
@@ -192,38 +205,60 @@ pub read-tests : (p : Params) (l matrix : List ℕ) (work room : ℕ)
 unfolding readAnswer answerFromMatrix receivedWord
 read-tests p l matrix work room = sym (early-parts p l matrix work (answerFromReceived (sizesFor p l) (receivedWord p l matrix) room))
 
--- what the answers 1 to 8 have, and the one behind them, the answer has
-early-keeps : (Q : ReadAnswer → Type 0) (p : Params) (l matrix : List ℕ) (work : ℕ) (d : ReadAnswer)
-    → ((k place : ℕ) → 1 ≤ k → k ≤ 8 → (k ≡ 6 → ⊥) → (k ≡ 2) ⊎ (k ≡ 7) ⊎ (place ≡ 0) → Q (refused k place))
-    → Q d
+-- What the answers 1 to 8 have, 2 at the place of the list's fault and 7 at that of the first bad module, and the one behind them, the
+-- answer has. 7 and the one behind are asked of legal input only.
+early-each : (Q : ReadAnswer → Type 0) (p : Params) (l matrix : List ℕ) (work : ℕ) (d : ReadAnswer)
+    → let bad = firstBadModule (p .colours) matrix in
+    ((k : ℕ) → 1 ≤ k → k ≤ 8 → (k ≡ 6 → ⊥) → Q (refused k 0))
+    → Q (refused 2 (listPlace (listVerdict p l)))
+    → (Legal p l (length matrix) work → bad < length matrix → Q (refused 7 bad))
+    → (Legal p l (length matrix) work → Q d)
     → Q (firstOf (testsBeforeChecks p l matrix work) d)
-early-keeps Q p l matrix work d early behind =
+early-each Q p l matrix work d each faulty wrong behind =
     let bad : ℕ = firstBadModule (p .colours) matrix in
-    let at7 : Q (refused 7 bad) = early 7 bad (omega arith) (omega arith) (λ z. omega arith) (inr (inl refl)) in
-    let at8 : Q (refused 8 0) = early 8 0 (omega arith) (omega arith) (λ z. omega arith) (inr (inr refl)) in
-    let from8 : Q (firstOf (row8 p l matrix ∷ []) d) = only-row Q (row8 p l matrix) d (λ t. at8) (λ t. behind) in
-    let from7 : Q (firstOf (matrixRows p l matrix) d) = first-keeps Q (row7 p matrix) (row8 p l matrix ∷ []) d (λ t. at7) from8 in
     subst⁻¹ Q (early-parts p l matrix work d)
-    (front-keeps refused p l (length matrix) work Q (firstOf (matrixRows p l matrix) d)
-    (λ k place low high at. early k place low (omega arith) (λ z. omega arith) (⊎-elim (λ e. inl e) (λ e. inr (inr e)) at)) from7)
+    (front-each refused p l (length matrix) work Q (firstOf (matrixRows p l matrix) d)
+    (λ k low high. each k low (omega arith) (λ z. omega arith)) faulty (λ legal.
+    first-keeps Q (row7 p matrix) (row8 p l matrix ∷ []) d (λ t. wrong legal (ltb-true bad (length matrix) t)) (λ t7.
+    only-row Q (row8 p l matrix) d (λ t. each 8 (omega arith) (omega arith) (λ z. omega arith)) (λ t8. behind legal))))
 
--- What the answers 1 to 8 have, 9 to 14 with the counts of the mending, and 0 where the message fits, every answer of a read has.
-pub read-keeps : (Q : ReadAnswer → Type 0) (p : Params) (l matrix : List ℕ) (work room : ℕ)
-    → let cs = checksFor (sizesFor p l) in
-    let w = receivedWord p l matrix in
-    let n = length (repairsOf cs w) in
-    let first = unmetCount cs w in
-    let m = messageIn p l matrix in
-    ((k place : ℕ) → 1 ≤ k → k ≤ 8 → (k ≡ 6 → ⊥) → (k ≡ 2) ⊎ (k ≡ 7) ⊎ (place ≡ 0) → Q (refused k place))
-    → ((k : ℕ) → 9 ≤ k → k ≤ 14 → Q (counted k n first))
-    → (length m ≤ room → Q (done (length m) n first))
-    → Q (readAnswer p l matrix work room)
-unfolding messageIn
-read-keeps Q p l matrix work room early late last =
-    let s : Sizes = sizesFor p l in
-    let w : List ℕ = receivedWord p l matrix in
-    subst⁻¹ Q (read-tests p l matrix work room)
-    (early-keeps Q p l matrix work (answerFromReceived s w room) early (received-keeps Q s w room late last))
+module _ (Q : ReadAnswer → Type 0) (p : Params) (l matrix : List ℕ) (work room : ℕ) where
+  -- The same of all answers of a read: behind 8 stand 9 to 14 with the counts of the mending, and 0 where the message fits.
+  pub read-each : let cs = checksFor (sizesFor p l) in
+      let w = receivedWord p l matrix in
+      let n = length (repairsOf cs w) in
+      let first = unmetCount cs w in
+      let m = messageIn p l matrix in
+      let bad = firstBadModule (p .colours) matrix in
+      ((k : ℕ) → 1 ≤ k → k ≤ 8 → (k ≡ 6 → ⊥) → Q (refused k 0))
+      → Q (refused 2 (listPlace (listVerdict p l)))
+      → (Legal p l (length matrix) work → bad < length matrix → Q (refused 7 bad))
+      → (Legal p l (length matrix) work → (k : ℕ) → 9 ≤ k → k ≤ 14 → Q (counted k n first))
+      → (Legal p l (length matrix) work → length m ≤ room → Q (done (length m) n first))
+      → Q (readAnswer p l matrix work room)
+  unfolding messageIn
+  read-each each faulty wrong late last =
+      let s : Sizes = sizesFor p l in
+      let w : List ℕ = receivedWord p l matrix in
+      subst⁻¹ Q (read-tests p l matrix work room)
+      (early-each Q p l matrix work (answerFromReceived s w room) each faulty wrong
+      (λ legal. received-keeps Q s w room (late legal) (last legal)))
+
+  -- What the answers 1 to 8 have, 9 to 14 with the counts of the mending, and 0 where the message fits, every answer of a read has.
+  pub read-keeps : let cs = checksFor (sizesFor p l) in
+      let w = receivedWord p l matrix in
+      let n = length (repairsOf cs w) in
+      let first = unmetCount cs w in
+      let m = messageIn p l matrix in
+      ((k place : ℕ) → 1 ≤ k → k ≤ 8 → (k ≡ 6 → ⊥) → (k ≡ 2) ⊎ (k ≡ 7) ⊎ (place ≡ 0) → Q (refused k place))
+      → ((k : ℕ) → 9 ≤ k → k ≤ 14 → Q (counted k n first))
+      → (length m ≤ room → Q (done (length m) n first))
+      → Q (readAnswer p l matrix work room)
+  read-keeps early late last =
+      read-each (λ k low high no6. early k 0 low high no6 (inr (inr refl)))
+      (early 2 (listPlace (listVerdict p l)) (omega arith) (omega arith) (λ z. omega arith) (inl refl))
+      (λ legal less. early 7 (firstBadModule (p .colours) matrix) (omega arith) (omega arith) (λ z. omega arith) (inr (inl refl)))
+      (λ legal. late) (λ legal. last)
 
 -- ---- reaching the checks
 
@@ -233,11 +268,15 @@ module _ (p : Params) (l matrix : List ℕ) (work : ℕ) where
 
   -- the number that the tests 1 to 8 give is at most 8
   early-most : early (refused 0 0) .number ≤ 8
-  early-most = early-keeps (λ (a : ReadAnswer). a .number ≤ 8) p l matrix work (refused 0 0) (λ k place low high no6 at. high) (omega arith)
+  early-most =
+      early-each (λ (a : ReadAnswer). a .number ≤ 8) p l matrix work (refused 0 0) (λ k low high no6. high) (omega arith)
+      (λ legal less. omega arith) (λ legal. omega arith)
 
   -- and it is not 0
   early-some : 1 ≤ early (refused 9 0) .number
-  early-some = early-keeps (λ (a : ReadAnswer). 1 ≤ a .number) p l matrix work (refused 9 0) (λ k place low high no6 at. low) (omega arith)
+  early-some =
+      early-each (λ (a : ReadAnswer). 1 ≤ a .number) p l matrix work (refused 9 0) (λ k low high no6. low) (omega arith)
+      (λ legal less. omega arith) (λ legal. omega arith)
 
   -- the tests 1 to 8 refuse nothing, or they give an answer that does not depend on what follows; then its number is 1 to 8
   either-way : ((d : ReadAnswer) → early d ≡ d) ⊎ ((a : ReadAnswer) × ((d : ReadAnswer) → early d ≡ a) × (1 ≤ a .number) × (a .number ≤ 8))

@@ -8,7 +8,7 @@ use mathlib.Core.List.{List, [], _++_}
 use native.Mathlib.Omega.{arith}
 use native.Mathlib.Decide.{decLt}
 use lib.Dec.{leb, eqb}
-use lib.ListN.{length, getD, take, drop, length-drop, List·getD-eq-default}
+use lib.ListN.{length, getD, take, drop, length-append, length-drop, List·getD-eq-default}
 use borrow.Author.Tests.{le-leb, lt-leb, leb-true}
 use Rattle.symbology.specs.declared.Mode.{Mode}
 use Rattle.symbology.specs.declared.Mode.the-variants.{Upper, Lower, Numeric, Alphanumeric}
@@ -204,7 +204,7 @@ unfolding readFrom readCodes
 read-short m e bs out h =
     ap (λ (r : Reading). readCodes (length bs) r) (code-cut m e bs out h) ∙ codes-over (length bs) (endNumber e (length bs)) out
 
--- ---- how many bytes a code gives
+-- ---- how many bytes a code and a stream give
 
 -- a table's characters give at most k bytes each
 characters-few : (k : ℕ) (table : List (List ℕ)) → allBelow (length table) (λ v. leb (length (characterBytes table v)) k) ≡ true
@@ -253,3 +253,36 @@ bytes-few m MoreSwitches v = omega arith
 bytes-few m ShortCount v = omega arith
 bytes-few m LongCount v = omega arith
 bytes-few m (Byte k) v = omega arith
+
+-- the bytes read and the bits left are at most n
+abbrev Few : ℕ → Reading → Type 0
+Few n (at m e bs out) = length out + length bs ≤ n
+Few n (over k out) = length out ≤ n
+
+after-few : (n : ℕ) (s : ModeAnswer) (bs out : List ℕ) → length out + length bs ≤ n → Few n (afterCode s bs out)
+unfolding afterCode
+after-few n (Next m e) bs out h = h
+after-few n EndOfMessage bs out h = omega arith
+after-few n Undefined bs out h = omega arith
+after-few n Eci bs out h = omega arith
+after-few n Fnc1 bs out h = omega arith
+
+code-few : (n : ℕ) (m : Mode) (e : Expected) (bs out : List ℕ) → length out + length bs ≤ n → Few n (readCode m e bs out)
+code-few n m e bs out h =
+    let w : ℕ = codeWidth m e in
+    let v : ℕ = value (take w bs) in
+    code-by (Few n) m e bs out
+    (λ l. after-few n (switchOf m e v) (drop w bs) (out ++ bytesOf m e v)
+    (omega (arith, length-append out (bytesOf m e v), length-drop w bs, bytes-few m e v))) (λ l. omega arith)
+
+codes-few : (n f : ℕ) (r : Reading) → Few n r → length (readCodes f r .bytes) ≤ n
+unfolding readCodes
+codes-few n zero (at m e bs out) h = omega arith
+codes-few n zero (over k out) h = h
+codes-few n (suc f) (at m e bs out) h = codes-few n f (readCode m e bs out) (code-few n m e bs out h)
+codes-few n (suc f) (over k out) h = h
+
+-- A stream gives no more bytes than it has bits.
+pub decode-few : (bs : List ℕ) → length (decode bs .bytes) ≤ length bs
+unfolding decode
+decode-few bs = codes-few (length bs) (suc (length bs)) (at Upper Latched bs []) (omega arith)

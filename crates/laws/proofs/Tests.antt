@@ -1,7 +1,7 @@
 -- Laws of tables of tests, and what the tests 1 to 5 say of parameters, list and buffers that pass them.
 -- Assumes nothing.
 use Prim.Native.Nat.{ℕ, zero, suc, _*_, _≤_, _<_}
-use mathlib.Core.Path.{_≡_, refl, ap, _∙_}
+use mathlib.Core.Path.{_≡_, refl, ap, _∙_, subst⁻¹}
 use mathlib.Core.Bool.{Bool, true, false, cond, not, _||_}
 use mathlib.Core.Logic.{_⊎_, inl, inr}
 use mathlib.Core.List.{List, [], _∷_, _++_}
@@ -19,7 +19,7 @@ use Rattle.symbology.specs.declared.ListVerdict.the-variants.{Sound, Fault}
 use Rattle.symbology.specs.Ranges.{lowest}
 use Rattle.symbology.specs.Parameters.{inRange}
 use Rattle.symbology.specs.Reserved.{listVerdict, listNumber, listPlace}
-use Rattle.symbology.specs.Tests.{Row, on, firstOf, sizesFor, sizeTests, bufferTests, frontTests}
+use Rattle.symbology.specs.Tests.{Row, firstOf, sizesFor, sizeTests, bufferTests, frontTests}
 use Rattle.symbology.specs.Write.{answer, isLegal}
 use Rattle.symbology.proofs.Ranges.{clash}
 use Rattle.laws.proofs.Ranges.{by, or-left, or-right, lowest-holds, lowest-before}
@@ -76,18 +76,6 @@ module _ {A : Type 0} where
         | no h ↦ inr (λ j k. lowest-before f (length rs) 0 j (omega arith) (omega arith))
       ]
 
-  -- an answer that the first row does not give comes from the other rows, and the first row's test fails
-  pub first-beyond : (P : A → Type 0) (r : Row A) (rs : List (Row A)) (d : A)
-      → (P (r .gives) → ⊥)
-      → P (firstOf (r ∷ rs) d)
-      → (r .test ≡ false) × P (firstOf rs d)
-  unfolding firstOf
-  first-beyond P r rs d no-first given = go (r .test) given
-    where
-      go : (t : Bool) → P (cond t (r .gives) (firstOf rs d)) → (t ≡ false) × P (firstOf rs d)
-      go true g = absurd (no-first g)
-      go false g = (refl, g)
-
   -- a table gives either the last answer, whatever that is, or an answer that does not depend on it
   pub first-either : (rs : List (Row A)) → ((d : A) → firstOf rs d ≡ d) ⊎ ((a : A) × ((d : A) → firstOf rs d ≡ a))
   first-either [] = inl (λ d. first-none d)
@@ -99,26 +87,22 @@ module _ {A : Type 0} where
       go e (inl all) = inl (λ d. first-miss r rs d e ∙ all d)
       go e (inr one) = inr (one .0, λ d. first-miss r rs d e ∙ one .1 d)
 
-  -- what a row's answer has where its test holds, and the answer of the other rows has, the table's answer has
+  -- what a row's answer has where its test holds, and the answer of the other rows where it fails, the table's answer has
   pub first-keeps : (Q : A → Type 0) (r : Row A) (rs : List (Row A)) (d : A)
       → (r .test ≡ true → Q (r .gives))
-      → Q (firstOf rs d)
+      → (r .test ≡ false → Q (firstOf rs d))
       → Q (firstOf (r ∷ rs) d)
   unfolding firstOf
-  first-keeps Q r rs d first others = go (r .test) first
+  first-keeps Q r rs d first others = go (r .test) first others
     where
-      go : (t : Bool) → (t ≡ true → Q (r .gives)) → Q (cond t (r .gives) (firstOf rs d))
-      go true f = f refl
-      go false f = others
+      go : (t : Bool) → (t ≡ true → Q (r .gives)) → (t ≡ false → Q (firstOf rs d)) → Q (cond t (r .gives) (firstOf rs d))
+      go true f g = f refl
+      go false f g = g refl
 
   -- a table with one row
   pub only-row : (Q : A → Type 0) (r : Row A) (d : A) → (r .test ≡ true → Q (r .gives)) → (r .test ≡ false → Q d) → Q (firstOf (r ∷ []) d)
   unfolding firstOf
-  only-row Q r d first other = go (r .test) first other
-    where
-      go : (t : Bool) → (t ≡ true → Q (r .gives)) → (t ≡ false → Q d) → Q (cond t (r .gives) d)
-      go true f g = f refl
-      go false f g = g refl
+  only-row Q r d first other = first-keeps Q r [] d first other
 
 -- ---- the tests 1 to 5
 
@@ -140,22 +124,50 @@ sound-verdict : (v : ListVerdict) → v ≡ Sound → eqb (listNumber v) 2 ≡ f
 unfolding listNumber
 sound-verdict v e = rw e refl
 
+-- What the refusals 1 to 3 have, the second at the place of the list's fault, and the answer behind them where a matrix and a work
+-- buffer of the symbol's sizes are legal, the table's answer has.
+pub sizes-each : {A : Type 0} (refusal : ℕ → ℕ → A) (p : Params) (l : List ℕ) (Q : A → Type 0) (d : A)
+    → ((n : ℕ) → 1 ≤ n → n ≤ 3 → Q (refusal n 0))
+    → Q (refusal 2 (listPlace (listVerdict p l)))
+    → (Legal p l (sizesFor p l .columns * sizesFor p l .rows) (sizesFor p l .work) → Q d)
+    → Q (firstOf (sizeTests refusal p l) d)
+unfolding sizeTests
+sizes-each refusal p l Q d each faulty behind =
+    let c : ℕ = sizesFor p l .capacity in
+    first-keeps Q _ _ d (λ t. each 1 (omega arith) (omega arith)) (λ t1.
+    first-keeps Q _ _ d (λ t. faulty) (λ t2.
+    only-row Q _ d (λ t. each 3 (omega arith) (omega arith)) (λ t3.
+    behind (record {
+      in-range = not-false (inRange p) t1;
+      sound = verdict-sound (listVerdict p l) t2;
+      least = ltb-false c (p .wr) (or-left (ltb c (p .wr)) (ltb 4096 c) t3);
+      most = ltb-false 4096 c (or-right (ltb c (p .wr)) (ltb 4096 c) t3);
+      whole = refl;
+      enough = omega arith;
+    }))))
+
 module _ {A : Type 0} (refusal : ℕ → ℕ → A) (p : Params) (l : List ℕ) (modules room : ℕ) where
-  -- the rows of the tests 1 to 5
-  abbrev row1 : Row A
-  row1 = on (not (inRange p)) (refusal 1 0)
-
-  abbrev row2 : Row A
-  row2 = on (eqb (listNumber (listVerdict p l)) 2) (refusal 2 (listPlace (listVerdict p l)))
-
-  abbrev row3 : Row A
-  row3 = on (ltb (sizesFor p l .capacity) (p .wr) || ltb 4096 (sizesFor p l .capacity)) (refusal 3 0)
-
-  abbrev row4 : Row A
-  row4 = on (not (eqb modules (sizesFor p l .columns * sizesFor p l .rows))) (refusal 4 0)
-
-  abbrev row5 : Row A
-  row5 = on (ltb room (sizesFor p l .work)) (refusal 5 0)
+  -- the same of the tests 1 to 5, and the answer behind them where parameters, list and buffers are legal
+  pub front-each : (Q : A → Type 0) (d : A)
+      → ((n : ℕ) → 1 ≤ n → n ≤ 5 → Q (refusal n 0))
+      → Q (refusal 2 (listPlace (listVerdict p l)))
+      → (Legal p l modules room → Q d)
+      → Q (firstOf (frontTests refusal p l modules room) d)
+  unfolding bufferTests frontTests
+  front-each Q d each faulty behind =
+      let s : Sizes = sizesFor p l in
+      subst⁻¹ Q (first-append (sizeTests refusal p l) (bufferTests refusal p l modules room) d)
+      (sizes-each refusal p l Q (firstOf (bufferTests refusal p l modules room) d) (λ n low high. each n low (omega arith)) faulty (λ k.
+      first-keeps Q _ _ d (λ t. each 4 (omega arith) (omega arith)) (λ t4.
+      only-row Q _ d (λ t. each 5 (omega arith) (omega arith)) (λ t5.
+      behind (record {
+        in-range = k .in-range;
+        sound = k .sound;
+        least = k .least;
+        most = k .most;
+        whole = eqb-true modules (s .columns * s .rows) (not-false (eqb modules (s .columns * s .rows)) t4);
+        enough = ltb-false room (s .work) t5;
+      })))))
 
   -- Where an answer has the number 0, none of the tests 1 to 5 gave it: what it was given for is legal, and the answer is the one
   -- behind them. `number` is the number of an answer.
@@ -163,25 +175,9 @@ module _ {A : Type 0} (refusal : ℕ → ℕ → A) (p : Params) (l : List ℕ) 
       → ((n place : ℕ) → number (refusal n place) ≡ n)
       → number (firstOf (frontTests refusal p l modules room) d) ≡ 0
       → Legal p l modules room × (number d ≡ 0)
-  unfolding firstOf sizeTests bufferTests frontTests
   front-legal number d gives e =
-      let s : Sizes = sizesFor p l in
-      let c : ℕ = s .capacity in
-      let P : A → Type 0 = λ a. number a ≡ 0 in
-      let at1 = first-beyond P row1 (row2 ∷ row3 ∷ row4 ∷ row5 ∷ []) d (λ z. omega (arith, gives 1 0)) e in
-      let at2 = first-beyond P row2 (row3 ∷ row4 ∷ row5 ∷ []) d (λ z. omega (arith, gives 2 (listPlace (listVerdict p l)))) (at1 .1) in
-      let at3 = first-beyond P row3 (row4 ∷ row5 ∷ []) d (λ z. omega (arith, gives 3 0)) (at2 .1) in
-      let at4 = first-beyond P row4 (row5 ∷ []) d (λ z. omega (arith, gives 4 0)) (at3 .1) in
-      let at5 = first-beyond P row5 [] d (λ z. omega (arith, gives 5 0)) (at4 .1) in
-      let k : Legal p l modules room = record {
-        in-range = not-false (inRange p) (at1 .0);
-        sound = verdict-sound (listVerdict p l) (at2 .0);
-        least = ltb-false c (p .wr) (or-left (ltb c (p .wr)) (ltb 4096 c) (at3 .0));
-        most = ltb-false 4096 c (or-right (ltb c (p .wr)) (ltb 4096 c) (at3 .0));
-        whole = eqb-true modules (s .columns * s .rows) (not-false (eqb modules (s .columns * s .rows)) (at4 .0));
-        enough = ltb-false room (s .work) (at5 .0);
-      } in
-      (k, at5 .1)
+      front-each (λ (a : A). number a ≡ 0 → Legal p l modules room × (number d ≡ 0)) d (λ n low high z. absurd (omega (arith, gives n 0)))
+      (λ z. absurd (omega (arith, gives 2 (listPlace (listVerdict p l))))) (λ k z. (k, z)) e
 
   -- The tests 1 to 5 refuse no legal input, whatever follows them.
   pub front-passed : (d : A) → Legal p l modules room → firstOf (frontTests refusal p l modules room) d ≡ d
@@ -194,18 +190,34 @@ module _ {A : Type 0} (refusal : ℕ → ℕ → A) (p : Params) (l : List ℕ) 
       let whole : eqb modules (s .columns * s .rows) ≡ true = eq-eqb modules (s .columns * s .rows) (k .whole) in
       rw (k .in-range, sound-verdict (listVerdict p l) (k .sound), few, many, whole, le-ltb room (s .work) (k .enough))
 
-  -- what every refusal of the tests 1 to 5 has, and the answer behind them, the whole table's answer has
-  pub front-keeps : (Q : A → Type 0) (d : A)
-      → ((n place : ℕ) → 1 ≤ n → n ≤ 5 → (n ≡ 2) ⊎ (place ≡ 0) → Q (refusal n place))
-      → Q d
-      → Q (firstOf (frontTests refusal p l modules room) d)
-  unfolding sizeTests bufferTests frontTests
-  front-keeps Q d each behind =
-      first-keeps Q row1 (row2 ∷ row3 ∷ row4 ∷ row5 ∷ []) d (λ t. each 1 0 (omega arith) (omega arith) (inr refl))
-      (first-keeps Q row2 (row3 ∷ row4 ∷ row5 ∷ []) d (λ t. each 2 (listPlace (listVerdict p l)) (omega arith) (omega arith) (inl refl))
-      (first-keeps Q row3 (row4 ∷ row5 ∷ []) d (λ t. each 3 0 (omega arith) (omega arith) (inr refl))
-      (first-keeps Q row4 (row5 ∷ []) d (λ t. each 4 0 (omega arith) (omega arith) (inr refl))
-      (only-row Q row5 d (λ t. each 5 0 (omega arith) (omega arith) (inr refl)) (λ t. behind)))))
+-- five tests, numbered 1 to 5, of which the second has a place
+abbrev five : {A : Type 0} → (ℕ → ℕ → A) → Bool → Bool → Bool → Bool → Bool → ℕ → A → A
+five refusal t u v w x place d =
+    cond t (refusal 1 0) (cond u (refusal 2 place) (cond v (refusal 3 0) (cond w (refusal 4 0) (cond x (refusal 5 0) d))))
+
+five-refuse : {A : Type 0} (refusal : ℕ → ℕ → A) (d : A) (t u v w x : Bool) (place : ℕ) (a : Answer)
+    → a ≡ five answer t u v w x place (answer 0 0)
+    → (a .number ≡ 0 → ⊥)
+    → five refusal t u v w x place d ≡ refusal (a .number) (a .place)
+five-refuse refusal d true u v w x place a told some = rw told
+five-refuse refusal d false true v w x place a told some = rw told
+five-refuse refusal d false false true w x place a told some = rw told
+five-refuse refusal d false false false true x place a told some = rw told
+five-refuse refusal d false false false false true place a told some = rw told
+five-refuse refusal d false false false false false place a told some = absurd (some (rw told))
+
+-- Where the tests 1 to 5 refuse, they do so in every call, with the same number and place.
+pub front-refuses : {A : Type 0} (refusal : ℕ → ℕ → A) (p : Params) (l : List ℕ) (modules room : ℕ) (d : A) (a : Answer)
+    → a ≡ firstOf (frontTests answer p l modules room) (answer 0 0)
+    → (a .number ≡ 0 → ⊥)
+    → firstOf (frontTests refusal p l modules room) d ≡ refusal (a .number) (a .place)
+unfolding firstOf sizeTests bufferTests frontTests
+front-refuses refusal p l modules room d a told some =
+    let s : Sizes = sizesFor p l in
+    five-refuse refusal d (not (inRange p)) (eqb (listNumber (listVerdict p l)) 2)
+    (ltb (s .capacity) (p .wr) || ltb 4096 (s .capacity))
+    (not (eqb modules (s .columns * s .rows)))
+    (ltb room (s .work)) (listPlace (listVerdict p l)) a told some
 
 -- Legal input passes each of the tests 1 to 5.
 pub legal : (p : Params) (l : List ℕ) (modules room : ℕ) → isLegal p l modules room ≡ true → Legal p l modules room

@@ -4,3 +4,4 @@ pub mod Cells
 pub mod Walk
 pub mod Filled
 pub mod Sampled
+pub mod Legal

@@ -1,7 +1,8 @@
 -- The sizes of a legal symbol belong together, and its areas lie in a work buffer that test 5 lets pass.
 -- Assumes nothing.
-use Prim.Native.Nat.{ℕ, _*_, _/_, _≤_, _<_}
+use Prim.Native.Nat.{ℕ, _+_, _*_, _/_, _≤_, _<_}
 use mathlib.Core.Path.{_≡_, refl, sym, ap, _∙_, subst⁻¹}
+use mathlib.Core.Bool.{true}
 use mathlib.Core.List.{List}
 use native.Mathlib.Nat.{le-div-iff-mul-le, mul-div-cancel-left}
 use native.Mathlib.Omega.{arith}
@@ -9,8 +10,9 @@ use Rattle.symbology.specs.declared.Params.{Params}
 use Rattle.symbology.specs.declared.Sizes.{Sizes}
 use Rattle.symbology.specs.Capacity.{sizesOf}
 use Rattle.symbology.specs.Tests.{sizesFor}
+use Rattle.symbology.specs.Write.{isLegal}
 use Rattle.laws.proofs.Parameters.{ranges}
-use Rattle.laws.proofs.Tests.{Legal}
+use Rattle.laws.proofs.Tests.{Legal, legal}
 use Rattle.laws.proofs.Sizes.{gross-most, gross-parts}
 use Rattle.lent.specs.declared.Areas.{Areas}
 use Rattle.lent.specs.Buffer.{Laid}
@@ -48,6 +50,24 @@ areas-laid {s} k h =
       numbers-end = omega arith;
       message-end = omega (arith, k .work-is, k .parts, k .inside);
     }
+
+-- The sizes belong together and the buffer is long enough, where parameters, list and buffers are legal.
+pub legal-sizes : (p : Params) (l : List ℕ) (modules room : ℕ) {s : Sizes} → isLegal p l modules room ≡ true → s ≡ sizesFor p l
+    → CodeSizes s × (s .work ≤ room)
+legal-sizes p l modules room e same =
+    let k : Legal p l modules room = legal p l modules room e in
+    (subst⁻¹ CodeSizes same (code-sizes p l modules room k), omega (arith, k .enough, ap (λ (z : Sizes). z .work) same))
+
+module _ {s : Sizes} {a : Areas} {room : ℕ} (k : CodeSizes s) (h : s .work ≤ room) (e : a ≡ areasOf s) where
+  -- the net bits lie in the buffer
+  pub net-inside : a .message + s .net ≤ room
+  unfolding areasOf
+  net-inside = omega (arith, areas-laid k h .message-end, ap (λ (b : Areas). b .message) e)
+
+  -- so do the C bits, of which the first are the word
+  pub bits-inside : a .word + s .capacity ≤ room
+  unfolding areasOf
+  bits-inside = omega (arith, areas-laid k h .message-end, ap (λ (b : Areas). b .word) e)
 
 -- A has wc blocks of t rows.
 blocks : {s : Sizes} → CodeSizes s → s .checks ≡ s .block * (s .checks / s .block)

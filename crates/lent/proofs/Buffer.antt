@@ -1,12 +1,13 @@
 -- Parts of a buffer, numbers of two bytes stored and read, and places that stay as they were.
 -- Assumes nothing.
 use Prim.Native.Nat.{ℕ, _+_, _-_, _*_, _/_, _%_, _≤_, _<_}
-use mathlib.Core.Path.{_≡_, refl, sym, ap₂, _∙_}
+use mathlib.Core.Path.{_≡_, refl, sym, ap, ap₂, _∙_}
 use mathlib.Core.List.{List, _++_}
 use native.Mathlib.Decide.{decLt, ℕ-discrete}
 use native.Mathlib.Omega.{arith}
 use lib.ListN.{length, getD, take, drop, set, replicate, length-set, length-drop, length-append, length-replicate, List·getD-append, getD-replicate, List·getD-eq-default}
-use lib.Seq.{length-take-le, getD-take, getD-drop, getD-set-same, getD-set-other, getD-append-add, ext-getD}
+use lib.Seq.{length-take-le, getD-take, getD-drop, getD-set-same, getD-set-other, getD-append-add, take-at, drop-at, take-take, ext-getD}
+use borrow.Rule.Slice.PartMut.{putMid, same-len-mid}
 use Rattle.laws.proofs.Ranges.{length-tabulate, getD-tabulate, tabulate-ext}
 use Rattle.lent.specs.Buffer.{part, numberAt, numbersAt, storedNumber, ChangedIn, ChangedInBoth, Cleared, Laid}
 use Rattle.lent.specs.declared.Areas.{Areas}
@@ -36,6 +37,27 @@ pub part-same : (xs ys : List ℕ) (at n : ℕ) → at + n ≤ length xs → at 
 part-same xs ys at n h g same =
     part-is ys at n (part xs at n) g (length-part xs at n h)
     (λ i l. same (at + i) (omega arith) (omega arith) ∙ sym (part-at xs at n i l))
+
+-- the width of a part that code lends from one place up to another
+pub lent-width : (at n : ℕ) → at + n - at ≡ n
+lent-width at n = omega arith
+
+-- such a part
+pub part-lent : (xs : List ℕ) (at n : ℕ) → part xs at (at + n - at) ≡ part xs at n
+part-lent xs at n = ap (part xs at) (lent-width at n)
+
+-- a part of a part, from its first place on
+pub part-front : (xs : List ℕ) (at n k : ℕ) → k ≤ n → take k (part xs at n) ≡ part xs at k
+part-front xs at n k h = take-take k n (drop at xs) h
+
+-- what lies behind the first k places of a part
+pub part-behind : (xs : List ℕ) (at n k : ℕ) → k ≤ n → at + n ≤ length xs → drop k (part xs at n) ≡ part xs (at + k) (n - k)
+part-behind xs at n k h room =
+    sym (part-is xs (at + k) (n - k) (drop k (part xs at n)) (omega arith)
+    (length-drop k (part xs at n) ∙ ap (λ (m : ℕ). m - k) (length-part xs at n room))
+    (λ i g.
+    let place : at + k + i ≡ at + (k + i) = omega arith in
+    ap (λ (j : ℕ). getD xs j 0) place ∙ sym (getD-drop k (part xs at n) i 0 ∙ part-at xs at n (k + i) (omega arith))))
 
 -- ---- numbers of two bytes
 
@@ -137,6 +159,40 @@ module _ {from to : ℕ} {before after : List ℕ} (c : ChangedIn from to before
         long = d .long ∙ c .long;
         front = λ p l. d .front p (omega arith) ∙ c .front p l;
         behind = λ p l. d .behind p (omega arith) ∙ c .behind p l;
+      }
+
+-- ---- a part that was lent and came back
+
+module _ (at n : ℕ) (xs ys : List ℕ) (room : at + n ≤ length xs) (long : length ys ≡ n) where
+  pub length-put : length (putMid at n xs ys) ≡ length xs
+  length-put = same-len-mid at n xs ys (long ∙ sym (length-part xs at n room))
+
+  -- the part is what came back
+  pub part-put : part (putMid at n xs ys) at n ≡ ys
+  part-put =
+      let front : List ℕ = take at xs in
+      let rest : List ℕ = drop n (drop at xs) in
+      ap (take n) (drop-at front (ys ++ rest) at (length-take-le at xs (omega arith))) ∙ take-at ys rest n long
+
+  -- all else is as it was
+  pub changed-put : ChangedIn at (at + n) xs (putMid at n xs ys)
+  changed-put =
+      let front : List ℕ = take at xs in
+      let rest : List ℕ = drop n (drop at xs) in
+      let short : length front ≡ at = length-take-le at xs (omega arith) in
+      record {
+        long = length-put;
+        front = λ i h. List·getD-append front (ys ++ rest) 0 i (omega arith) ∙ getD-take at xs i 0 h;
+        behind = λ i h.
+            let k : ℕ = i - (at + n) in
+            let place : i ≡ length front + (length ys + k) = omega arith in
+            let inside : at + (n + k) ≡ i = omega arith in
+            ap (λ (j : ℕ). getD (front ++ (ys ++ rest)) j 0) place
+            ∙ getD-append-add front (ys ++ rest) (length ys + k) 0
+            ∙ getD-append-add ys rest k 0
+            ∙ getD-drop n (drop at xs) k 0
+            ∙ getD-drop at xs (n + k) 0
+            ∙ ap (λ (j : ℕ). getD xs j 0) inside;
       }
 
 -- ---- clearing

@@ -10,6 +10,9 @@ ghost use Rattle.shuffle.specs.Numbers.{exchangedNumbers, NumbersShuffle
 ghost use Rattle.symbology.specs.Generator.{stateAfter};
 ghost use Rattle.symbology.specs.Shuffle.{exchanged, shuffled, unshuffled};
 
+// The state from which the C bits are interleaved (002, 4.5).
+pub const INTERLEAVING_SEED: u64 = 226759;
+
 // ---- bytes
 
 fn exchange(xs: &mut [u8], i: usize, j: usize)

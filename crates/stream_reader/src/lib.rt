@@ -93,7 +93,7 @@ pub fn up_to_last_one(net: &[u8]) -> usize
 }
 
 // A refusal that comes after the mending: its counts stand, the length is 0.
-fn refusal(number: u32, repairs: usize, unmet: usize) -> ReadAnswer
+pub fn refusal(number: u32, repairs: usize, unmet: usize) -> ReadAnswer
     ensures { λ r. ⌜ r ≡ counted number repairs unmet ⌝ }
 {
     ReadAnswer {

@@ -1,0 +1,141 @@
+-- The net bits and the C bits in the work buffer: they fit, and once C bits are received, the word and the stuffing bits are parts of
+-- the buffer.
+-- Assumes nothing.
+use Prim.Native.Nat.{ℕ, _+_, _-_, _≤_}
+use mathlib.Core.Path.{_≡_, sym, ap, _∙_, subst⁻¹}
+use mathlib.Core.Bool.{Bool, true, not}
+use mathlib.Core.List.{List}
+use native.Mathlib.Omega.{arith}
+use lib.ListN.{length, take, drop, length-drop}
+use borrow.Rule.Slice.PartMut.{putMid}
+use Rattle.symbology.specs.declared.Params.{Params}
+use Rattle.symbology.specs.declared.Sizes.{Sizes}
+use Rattle.symbology.specs.Bits.{AllBits}
+use Rattle.symbology.specs.Net.{stuffing}
+use Rattle.symbology.specs.Placement.{sampled}
+use Rattle.symbology.specs.Shuffle.{interleavingSeed}
+use Rattle.symbology.specs.Tests.{sizesFor}
+use Rattle.symbology.specs.Write.{isLegal}
+use Rattle.symbology.specs.Read.{receivedBits, receivedWord, sameBits, wrongStuffing}
+use Rattle.laws.proofs.Tests.{legal}
+use Rattle.laws.proofs.Shuffle.{length-unshuffled}
+use Rattle.laws.proofs.Sizes.{sampled-whole}
+use Rattle.laws.proofs.Mending.{received-bits}
+use Rattle.layout.specs.Walk.{SizedSymbol}
+use Rattle.layout.proofs.Legal.{legal-symbol}
+use Rattle.lent.specs.declared.Areas.{Areas}
+use Rattle.lent.specs.Buffer.{part}
+use Rattle.lent.proofs.Buffer.{length-part, lent-width, part-lent, part-front, part-behind, length-put, part-put}
+use Rattle.ldpc.specs.Work.{areasOf, CodeSizes, wordFor, netFor}
+use Rattle.ldpc.proofs.Work.{legal-sizes, bits-inside}
+
+-- ---- parts that are lent, as the code writes their ends
+
+-- the buffer after a list came back in the n places from a place on
+abbrev stored : ℕ → ℕ → List ℕ → List ℕ → List ℕ
+stored at n xs ys = putMid at (at + n - at) xs ys
+
+module _ (at n : ℕ) (xs ys : List ℕ) (room : at + n ≤ length xs) (long : length ys ≡ n) where
+  length-stored : length (stored at n xs ys) ≡ length xs
+  length-stored = length-put at (at + n - at) xs ys (omega arith) (omega arith)
+
+  -- the part is the list
+  part-stored : part (stored at n xs ys) at n ≡ ys
+  part-stored = rw (lent-width at n) (part-put at n xs ys room long)
+
+  -- the first k of the list
+  front-stored : (k : ℕ) → k ≤ n → part (stored at n xs ys) at k ≡ take k ys
+  front-stored k h = sym (part-front (stored at n xs ys) at n k h) ∙ ap (take k) part-stored
+
+  -- the others
+  behind-stored : (k : ℕ) → k ≤ n → take (at + n - (at + k)) (drop (at + k) (stored at n xs ys)) ≡ drop k ys
+  behind-stored k h =
+      let rest : at + n - (at + k) ≡ n - k = omega arith in
+      ap (λ (m : ℕ). take m (drop (at + k) (stored at n xs ys))) rest
+      ∙ sym (part-behind (stored at n xs ys) at n k h (omega (arith, length-stored)))
+      ∙ ap (drop k) part-stored
+
+-- ---- the net bits
+
+-- as they are lent
+pub net-lent : (s : Sizes) {a : Areas} (work : List ℕ) → a ≡ areasOf s → take (a .message + s .net - a .message) (drop (a .message) work) ≡ netFor s work
+net-lent s {a} work e = part-lent work (a .message) (s .net) ∙ ap (λ (z : Areas). part work (z .message) (s .net)) e
+
+-- ---- the C bits
+
+-- the sizes of a legal symbol, and the areas of a work buffer for them
+pub record Sized (p : Params) (l : List ℕ) (modules : ℕ) (work : List ℕ) (s : Sizes) (a : Areas) : Type 0 where
+  pub code : CodeSizes s
+  pub room : s .work ≤ length work
+  pub sizes-are : s ≡ sizesFor p l
+  pub areas-are : a ≡ areasOf s
+  pub legal-is : isLegal p l modules (length work) ≡ true
+
+pub sized : (p : Params) (l : List ℕ) (modules : ℕ) (work : List ℕ) {s : Sizes} {a : Areas}
+    → isLegal p l modules (length work) ≡ true
+    → s ≡ sizesFor p l
+    → a ≡ areasOf s
+    → Sized p l modules work s a
+sized p l modules work e same areas =
+    let k = legal-sizes p l modules (length work) e same in
+    record { code = k .0; room = k .1; sizes-are = same; areas-are = areas; legal-is = e }
+
+module _ {p : Params} {l : List ℕ} {modules : ℕ} {work : List ℕ} {s : Sizes} {a : Areas} (k : Sized p l modules work s a) where
+  -- they fit
+  pub bits-fit : a .word + s .capacity ≤ length work
+  bits-fit = bits-inside (k .code) (k .room) (k .areas-are)
+
+  -- what receiving them asks for
+  pub bits-lent : let out = take (a .word + s .capacity - a .word) (drop (a .word) work) in
+      SizedSymbol p l (length out) modules × (length out ≤ 4096)
+  bits-lent =
+      let c : ℕ = s .capacity in
+      let many : length (take (a .word + c - a .word) (drop (a .word) work)) ≡ c = length-part work (a .word) (a .word + c - a .word) (omega (arith, bits-fit)) ∙ omega arith in (
+        legal-symbol p l modules (length work) (k .legal-is) (many ∙ ap (λ (z : Sizes). z .capacity) (k .sizes-are)),
+        omega (arith, k .code .few),
+      )
+
+  -- the buffer once they are received
+  module _ (matrix : List ℕ) {bits : List ℕ} (got : bits ≡ receivedBits p l matrix) where
+    abbrev after : List ℕ
+    after = stored (a .word) (s .capacity) work bits
+
+    many-bits : length bits ≡ s .capacity
+    unfolding receivedBits
+    many-bits =
+        ap length got
+        ∙ length-unshuffled 0 interleavingSeed (sampled p l matrix)
+        ∙ sampled-whole p l matrix modules (length work) (legal p l modules (length work) (k .legal-is))
+        ∙ sym (ap (λ (z : Sizes). z .capacity) (k .sizes-are))
+
+    pub same-room : length (stored (a .word) (s .capacity) work bits) ≡ length work
+    same-room = length-stored (a .word) (s .capacity) work bits bits-fit many-bits
+
+    -- its word
+    pub word-received : wordFor s (stored (a .word) (s .capacity) work bits) ≡ receivedWord p l matrix
+    unfolding receivedWord
+    word-received =
+        ap (λ (z : Areas). part after (z .word) (s .gross)) (sym (k .areas-are))
+        ∙ front-stored (a .word) (s .capacity) work bits bits-fit many-bits (s .gross) (k .code .inside)
+        ∙ ap (take (s .gross)) got
+        ∙ ap (λ (z : Sizes). take (z .gross) (receivedBits p l matrix)) (k .sizes-are)
+
+    -- what going on from the word asks for
+    pub word-asks : let w = stored (a .word) (s .capacity) work bits in CodeSizes s × (s .work ≤ length w) × AllBits (wordFor s w)
+    word-asks = (k .code, omega (arith, same-room, k .room), subst⁻¹ AllBits word-received (received-bits p l matrix))
+
+    -- test 8, of the bits behind the word
+    pub stuffing-told : {r : Bool}
+        → let end = take (a .word + s .capacity - (a .word + s .gross)) (drop (a .word + s .gross) (stored (a .word) (s .capacity) work bits)) in
+        r ≡ not (sameBits end (stuffing (length end))) → r ≡ wrongStuffing (sizesFor p l) (receivedBits p l matrix)
+    unfolding wrongStuffing
+    stuffing-told {r} e =
+        let rest : List ℕ = drop (s .gross) bits in
+        let same : take (a .word + s .capacity - (a .word + s .gross)) (drop (a .word + s .gross) after) ≡ rest =
+        behind-stored (a .word) (s .capacity) work bits bits-fit many-bits (s .gross) (k .code .inside) in
+        let long : length rest ≡ s .capacity - s .gross = length-drop (s .gross) bits ∙ ap (λ (n : ℕ). n - s .gross) many-bits in
+        e
+        ∙ ap (λ (x : List ℕ). not (sameBits x (stuffing (length x)))) same
+        ∙ ap (λ (n : ℕ). not (sameBits rest (stuffing n))) long
+        ∙ ap (λ (x : List ℕ). not (sameBits (drop (s .gross) x) (stuffing (s .capacity - s .gross)))) got
+        ∙ ap (λ (z : Sizes). not (sameBits (drop (z .gross) (receivedBits p l matrix)) (stuffing (z .capacity - z .gross)))) (k .sizes-are)

@@ -1,0 +1,47 @@
+-- Test 8: bits compared one by one with the stuffing bits.
+-- Assumes nothing.
+use Prim.Native.Nat.{ℕ, _+_, _%_, _≤_, _<_}
+use mathlib.Core.Path.{_≡_, sym, ap, _∙_}
+use mathlib.Core.Bool.{true, false, not}
+use mathlib.Core.List.{List}
+use native.Mathlib.Decide.{ℕ-discrete}
+use native.Mathlib.Omega.{arith}
+use lib.ListN.{length, getD}
+use lib.Seq.{ext-getD}
+use Rattle.symbology.specs.Net.{stuffing}
+use Rattle.symbology.specs.Read.{sameBits}
+use Rattle.laws.proofs.Ranges.{by, length-tabulate, getD-tabulate}
+use Rattle.laws.proofs.Stages.{same-self, same-means}
+
+-- the first i bits are stuffing bits
+abbrev pub StuffedTo : List ℕ → ℕ → Type 0
+StuffedTo bits i = (j : ℕ) → j < i → getD bits j 0 ≡ j % 2
+
+length-stuffing : (n : ℕ) → length (stuffing n) ≡ n
+unfolding stuffing
+length-stuffing n = length-tabulate n (λ i. i % 2)
+
+stuffing-at : (n i : ℕ) → i < n → getD (stuffing n) i 0 ≡ i % 2
+unfolding stuffing
+stuffing-at n i h = getD-tabulate n (λ j. j % 2) 0 i h
+
+module _ (bits : List ℕ) where
+  pub stuffed-next : (i : ℕ) → StuffedTo bits i → getD bits i 0 ≡ i % 2 → StuffedTo bits (i + 1)
+  stuffed-next i before this j h = elim (ℕ-discrete j i) [
+    | yes e ↦ rw e this
+    | no e ↦ before j (omega arith)
+  ]
+
+  -- all of them are stuffing bits
+  pub right-bits : {i : ℕ} → StuffedTo bits i → length bits ≤ i → not (sameBits bits (stuffing (length bits))) ≡ false
+  right-bits all h =
+      let same : bits ≡ stuffing (length bits) = ext-getD 0 bits (stuffing (length bits)) (sym (length-stuffing (length bits)))
+      (λ j l. all j (omega arith) ∙ sym (stuffing-at (length bits) j l)) in
+      ap not (ap (sameBits bits) (sym same) ∙ same-self bits)
+
+  -- bit i is none
+  pub wrong-bit : (i : ℕ) → i < length bits → (getD bits i 0 ≡ i % 2 → ⊥) → not (sameBits bits (stuffing (length bits))) ≡ true
+  wrong-bit i h differs =
+      by (sameBits bits (stuffing (length bits)))
+      (λ t. absurd (differs (ap (λ (x : List ℕ). getD x i 0) (same-means bits (stuffing (length bits)) t) ∙ stuffing-at (length bits) i h)))
+      (λ t. ap not t)

@@ -1,0 +1,58 @@
+-- `symbol_reader::is_wrong_stuffing` meets its contract: the bits before i are stuffing bits. Assumes nothing.
+use Prim.Native.Nat.{_-_}
+use mathlib.Core.Path.{sym}
+use native.Mathlib.Omega.{arith}
+use lib.ListN.{length}
+use borrow.Author.Needs.{needs}
+use Rattle.symbol_reader.proofs.Stuffing.{StuffedTo, stuffed-next, right-bits, wrong-bit}
+use Rattle.symbol_reader.proofs.is_wrong_stuffing.Statement.{statement}
+use Rattle.symbol_reader.proofs.is_wrong_stuffing.Tie as tie
+
+abbrev Inv-loop : tie.InvT-loop
+Inv-loop bits i₀ i = StuffedTo bits i
+
+abbrev μ-loop : tie.MeasureT-loop
+μ-loop bits i₀ i = length bits - i
+
+loop-holds : tie.Need-loop-holds Inv-loop μ-loop
+loop-holds c = λ j h. absurd (omega arith)
+
+shared-slice-read-if1 : tie.Need-shared-slice-read-if1 Inv-loop μ-loop
+shared-slice-read-if1 c = search needs
+
+cast-if1 : tie.Need-cast-if1 Inv-loop μ-loop
+cast-if1 c = omega (arith, c .shared-slice-known .given (c .before .before .loop .i))
+
+returns : tie.Need-returns Inv-loop μ-loop
+returns c =
+    let bits = c .before .before .before .before .args .bits .now in
+    sym (wrong-bit bits (c .before .before .before .loop .i) (c .before .before .loop-test .taken) (c .if1 .taken))
+
+add-i : tie.Need-add-i Inv-loop μ-loop
+add-i c = search needs
+
+loop-less : tie.Need-loop-less Inv-loop μ-loop
+loop-less c = search needs
+
+loop-again : tie.Need-loop-again Inv-loop μ-loop
+loop-again c =
+    let bits = c .before .before .before .before .args .bits .now in
+    stuffed-next bits (c .before .before .before .loop .i) (c .before .before .before .loop .inv) (c .if1 .left)
+
+returns-2 : tie.Need-returns-2 Inv-loop μ-loop
+returns-2 c = sym (right-bits (c .before .before .args .bits .now) (c .before .loop .inv) (omega arith))
+
+pub is-wrong-stuffing-spec : {M : Type 1} → statement M
+is-wrong-stuffing-spec =
+    tie.close
+    (tie.spec
+    Inv-loop
+    μ-loop
+    loop-holds
+    shared-slice-read-if1
+    cast-if1
+    returns
+    add-i
+    loop-less
+    loop-again
+    returns-2)

@@ -1,0 +1,2 @@
+mod Stuffing
+mod Writing

@@ -1,0 +1,40 @@
+-- Stuffing bits stored one after the other.
+-- Assumes nothing.
+use Prim.Native.Nat.{ℕ, _+_, _%_, _≤_, _<_}
+use mathlib.Core.Path.{_≡_, refl, sym, _∙_}
+use mathlib.Core.List.{List}
+use native.Mathlib.Decide.{ℕ-discrete}
+use native.Mathlib.Omega.{arith}
+use lib.ListN.{length, getD, set, length-set}
+use lib.Seq.{getD-set-same, getD-set-other, ext-getD}
+use Rattle.symbology.specs.Net.{stuffing}
+use Rattle.laws.proofs.Ranges.{getD-tabulate}
+use Rattle.laws.proofs.Net.{length-stuffing}
+
+-- the first i places have the stuffing bits
+pub record StuffedTo (i : ℕ) (before after : List ℕ) : Type 0 where
+  pub long : length after ≡ length before
+  pub inside : i ≤ length before
+  pub stuffed : (j : ℕ) → j < i → getD after j 0 ≡ j % 2
+
+pub stuffed-first : (xs : List ℕ) → StuffedTo 0 xs xs
+stuffed-first xs = record { long = refl; inside = omega arith; stuffed = λ j h. absurd (omega arith) }
+
+module _ {i : ℕ} {before after : List ℕ} (s : StuffedTo i before after) where
+  pub stuffed-next : i < length after → StuffedTo (i + 1) before (set after i (i % 2))
+  stuffed-next h =
+      record {
+        long = length-set after i (i % 2) ∙ s .long;
+        inside = omega (arith, s .long);
+        stuffed = λ j g. elim (ℕ-discrete j i) [
+          | yes e ↦ rw e (getD-set-same after i (i % 2) 0 h)
+          | no e ↦ getD-set-other after i j (i % 2) 0 e ∙ s .stuffed j (omega arith)
+        ];
+      }
+
+  pub stuffed-all : length after ≤ i → after ≡ stuffing (length before)
+  unfolding stuffing
+  stuffed-all h =
+      let n : ℕ = length before in
+      ext-getD 0 after (stuffing n) (s .long ∙ sym (length-stuffing n))
+      (λ j g. s .stuffed j (omega arith) ∙ sym (getD-tabulate n (λ k. k % 2) 0 j (omega (arith, s .long))))

@@ -1,0 +1,181 @@
+-- The stages of a write: what each asks of the work buffer, and what they leave for the next.
+-- Assumes nothing.
+use Prim.Native.Nat.{ℕ, suc, _+_, _-_, _≤_, _<_}
+use mathlib.Core.Path.{_≡_, refl, sym, ap, ap₂, _∙_, subst⁻¹}
+use mathlib.Core.Bool.{Bool, true, false}
+use mathlib.Core.List.{List, _++_}
+use native.Mathlib.Omega.{arith}
+use lib.ListN.{length, drop, take}
+use lib.Seq.{take-add, drop-drop}
+use borrow.Author.Tests.{ltb-true, ltb-false}
+use borrow.Rule.Slice.PartMut.{putMid}
+use Rattle.symbology.specs.declared.Params.{Params}
+use Rattle.symbology.specs.declared.Sizes.{Sizes}
+use Rattle.symbology.specs.Bits.{AllBits}
+use Rattle.symbology.specs.Shuffle.{shuffled, interleavingSeed}
+use Rattle.symbology.specs.Stream.{byteStream}
+use Rattle.symbology.specs.Net.{withEndMark, exceeds, stuffing}
+use Rattle.symbology.specs.Placement.{filled}
+use Rattle.symbology.specs.Tests.{sizesFor}
+use Rattle.symbology.specs.Write.{codewordFor, placedBits, writtenMatrix, answer, writeAnswer, matrixAfterWrite, isLegal}
+use Rattle.laws.proofs.ByteMode.{stream-bits}
+use Rattle.laws.proofs.Net.{length-net, net-bits, length-stuffing}
+use Rattle.laws.proofs.Shuffle.{length-shuffled}
+use Rattle.laws.proofs.RoundTrip.{writes-and-reads}
+use Rattle.lent.specs.declared.Areas.{Areas}
+use Rattle.lent.specs.Buffer.{part}
+use Rattle.lent.proofs.Buffer.{length-part, lent-width, part-lent, part-same, length-put, part-put, changed-put}
+use Rattle.ldpc.specs.Work.{areasOf, CodeSizes, wordFor, netFor}
+use Rattle.ldpc.specs.Stages.{Encoded}
+use Rattle.ldpc.proofs.Work.{net-inside, bits-inside}
+use Rattle.symbol_writer.specs.Writing.{NetStored, BitsPlaced}
+
+-- ---- the stages in the work buffer
+
+module _ {s : Sizes} (before : List ℕ) (k : CodeSizes s) (room : s .work ≤ length before) where
+  -- the part for the net bits has room for them
+  pub net-room : {a : Areas} → a ≡ areasOf s → length (part before (a .message) (a .message + s .net - a .message)) ≡ s .net
+  net-room {a} e =
+      ap length (part-lent before (a .message) (s .net)) ∙ length-part before (a .message) (s .net) (net-inside k room e)
+
+  pub net-stored : {a : Areas} (message : List ℕ) {new : List ℕ}
+      → a ≡ areasOf s
+      → length (byteStream message) < s .net
+      → let n = a .message + s .net - a .message in
+      new ≡ withEndMark (length (part before (a .message) n)) (byteStream message)
+      → NetStored s message before (putMid (a .message) n before new)
+  net-stored {a} message {new} e fits is =
+      let at : ℕ = areasOf s .message in
+      let here : a .message ≡ at = ap (λ (b : Areas). b .message) e in
+      let inside : at + s .net ≤ length before = omega (arith, net-inside {room = length before} k room e) in
+      let net : new ≡ withEndMark (s .net) (byteStream message) = is ∙ ap (λ (m : ℕ). withEndMark m (byteStream message)) (net-room e) in
+      let long : length new ≡ s .net = ap length net ∙ length-net (s .net) (byteStream message) fits in
+      rw (lent-width (a .message) (s .net), here)
+      (record { long = length-put at (s .net) before new inside long; net-is = part-put at (s .net) before new inside long ∙ net })
+
+  -- codeword and stuffing, one behind the other
+  stuffed-word : (after : List ℕ) → Encoded s before after
+      → let at = areasOf s .word in
+      let m = s .capacity - s .gross in
+      let later = putMid (at + s .gross) m after (stuffing m) in
+      (length later ≡ length before) × (part later at (s .capacity) ≡ codewordFor s (netFor s before) ++ stuffing m)
+  stuffed-word after e =
+      let at : ℕ = areasOf s .word in
+      let g : ℕ = s .gross in
+      let m : ℕ = s .capacity - g in
+      let later : List ℕ = putMid (at + g) m after (stuffing m) in
+      let inside : at + g + m ≤ length after = omega (arith, bits-inside k room refl, k .inside, e .changed .long) in
+      let long : length later ≡ length after = length-put (at + g) m after (stuffing m) inside (length-stuffing m) in
+      let whole : s .capacity ≡ g + m = omega (arith, k .inside) in
+      let front : part later at g ≡ wordFor s after = part-same after later at g (omega arith) (omega (arith, long))
+      (λ i p q. changed-put (at + g) m after (stuffing m) inside (length-stuffing m) .front i q) in
+      let behind : part later (at + g) m ≡ stuffing m = part-put (at + g) m after (stuffing m) inside (length-stuffing m) in (
+        long ∙ e .changed .long,
+        ap (part later at) whole
+            ∙ take-add g m (drop at later)
+            ∙ ap₂ (λ (xs ys : List ℕ). xs ++ take m ys) (front ∙ e .word-is) (drop-drop g at later)
+            ∙ ap (λ (ys : List ℕ). codewordFor s (netFor s before) ++ ys) behind,
+      )
+
+  module _ {a : Areas} (e : a ≡ areasOf s) (encoded : List ℕ) (coded : Encoded s before encoded) (stuff : List ℕ) where
+    abbrev seam : ℕ
+    seam = a .word + s .gross
+
+    abbrev end : ℕ
+    end = a .word + s .capacity
+
+    -- the buffer with the stuffing bits behind the word
+    abbrev later : List ℕ
+    later = putMid seam (end - seam) encoded stuff
+
+    abbrev Stuffed : Type 0
+    Stuffed = stuff ≡ stuffing (length (part encoded seam (end - seam)))
+
+    stuffed-is : Stuffed → later ≡ putMid (areasOf s .word + s .gross) (s .capacity - s .gross) encoded (stuffing (s .capacity - s .gross))
+    stuffed-is is =
+        let g : ℕ = s .gross in
+        let m : ℕ = s .capacity - g in
+        let here : a .word ≡ areasOf s .word = ap (λ (b : Areas). b .word) e in
+        let rest : end - seam ≡ m = omega (arith, k .inside) in
+        let inside : seam + m ≤ length encoded = omega (arith, bits-inside {room = length before} k room e, k .inside, coded .changed .long) in
+        let bits : stuff ≡ stuffing m = is ∙ ap stuffing (ap (λ (j : ℕ). length (part encoded seam j)) rest ∙ length-part encoded seam m inside) in
+        ap₂ (λ (j : ℕ) (ys : List ℕ). putMid seam j encoded ys) rest bits
+        ∙ ap (λ (i : ℕ). putMid (i + g) m encoded (stuffing m)) here
+
+    pub stuffed-long : Stuffed → length later ≡ length before
+    stuffed-long is = ap length (stuffed-is is) ∙ stuffed-word encoded coded .0
+
+    pub bits-placed : {new : List ℕ}
+        → Stuffed
+        → new ≡ shuffled 0 interleavingSeed (part later (a .word) (end - a .word))
+        → BitsPlaced s before (putMid (a .word) (end - a .word) later new)
+    unfolding placedBits
+    bits-placed {new} stuffs is =
+        let at : ℕ = areasOf s .word in
+        let c : ℕ = s .capacity in
+        let here : a .word ≡ at = ap (λ (b : Areas). b .word) e in
+        let inside : at + c ≤ length later = omega (arith, stuffed-long stuffs, bits-inside k room refl) in
+        let lent : part later (a .word) (end - a .word) ≡ part later at c = rw (lent-width (a .word) c, here) refl in
+        let placed : new ≡ shuffled 0 interleavingSeed (part later at c) = is ∙ ap (shuffled 0 interleavingSeed) lent in
+        let long : length new ≡ c = ap length placed ∙ length-shuffled 0 interleavingSeed (part later at c) ∙ length-part later at c inside in
+        let bits : part later at c ≡ codewordFor s (netFor s before) ++ stuffing (c - s .gross) =
+        ap (λ (xs : List ℕ). part xs at c) (stuffed-is stuffs) ∙ stuffed-word encoded coded .1 in
+        let same : putMid (a .word) (end - a .word) later new ≡ putMid at c later new =
+        ap₂ (λ (i j : ℕ). putMid i j later new) here (lent-width (a .word) c) in
+        subst⁻¹ (BitsPlaced s before) same (record {
+          long = length-put at c later new inside long ∙ stuffed-long stuffs;
+          bits-are = part-put at c later new inside long ∙ placed ∙ ap (shuffled 0 interleavingSeed) bits;
+        })
+
+-- ---- the matrix
+
+-- the net bits are few
+pub net-few : {s : Sizes} → CodeSizes s → s .net ≤ 4096
+net-few k = omega (arith, k .parts, k .inside, k .few)
+
+-- the C bits in the buffer are as many as filling asks for
+pub bits-room : {s : Sizes} (work : List ℕ) {a : Areas} → CodeSizes s → s .work ≤ length work → a ≡ areasOf s
+    → length (part work (a .word) (a .word + s .capacity - a .word)) ≡ s .capacity
+bits-room {s} work {a} k h e =
+    ap length (part-lent work (a .word) (s .capacity)) ∙ length-part work (a .word) (s .capacity) (bits-inside k h e)
+
+-- the net bits of a message are bits
+pub message-bits : {s : Sizes} {message before after : List ℕ} → NetStored s message before after → AllBits (netFor s after)
+message-bits {s} {message} n = subst⁻¹ AllBits (n .net-is) (net-bits (s .net) (byteStream message) (stream-bits message))
+
+-- a matrix filled with the C bits of a message
+pub matrix-stored : (p : Params) (l message : List ℕ) {s : Sizes} {a : Areas} {first second third matrix : List ℕ}
+    → s ≡ sizesFor p l
+    → a ≡ areasOf s
+    → NetStored s message first second
+    → BitsPlaced s second third
+    → matrix ≡ filled p l (part third (a .word) (a .word + s .capacity - a .word))
+    → matrix ≡ writtenMatrix p l message
+unfolding writtenMatrix
+matrix-stored p l message {s} {a} {third = third} e h n b is =
+    is
+    ∙ ap₂ (λ (i j : ℕ). filled p l (part third i j)) (ap (λ (x : Areas). x .word) h) (lent-width (a .word) (s .capacity))
+    ∙ ap (filled p l) (b .bits-are ∙ ap (placedBits s) (n .net-is))
+    ∙ ap (λ (z : Sizes). filled p l (placedBits z (withEndMark (z .net) (byteStream message)))) e
+
+-- ---- test 6
+
+module _ (p : Params) (l message matrix : List ℕ) (room : ℕ) (is-legal : isLegal p l (length matrix) room ≡ true) {s : Sizes} (e : s ≡ sizesFor p l) {b : Bool} (is : b ≡ exceeds (length (byteStream message)) (s .net)) where
+  -- it holds
+  pub no-room : b ≡ true
+      → (answer 6 0 ≡ writeAnswer p l message (length matrix) room) × (matrix ≡ matrixAfterWrite p l message room matrix)
+  no-room t =
+      let more : sizesFor p l .net < suc (length (byteStream message)) =
+      omega (arith, ltb-true (s .net) (suc (length (byteStream message))) (sym is ∙ t), ap (λ (z : Sizes). z .net) e) in
+      let six = writes-and-reads p l message matrix room is-legal .denied more in
+      (sym (six .0), sym (six .1))
+
+  -- it does not: the stream and its end mark fit
+  pub fits : b ≡ false → length (byteStream message) < s .net
+  fits f = ltb-false (s .net) (suc (length (byteStream message))) (sym is ∙ f)
+
+  pub room-enough : {after : List ℕ} → b ≡ false → after ≡ writtenMatrix p l message
+      → (answer 0 0 ≡ writeAnswer p l message (length matrix) room) × (after ≡ matrixAfterWrite p l message room matrix)
+  room-enough f w =
+      let zero-is = writes-and-reads p l message matrix room is-legal .written (omega (arith, fits f, ap (λ (z : Sizes). z .net) e)) in
+      (sym (zero-is .0), w ∙ sym (zero-is .1))

@@ -1,0 +1,97 @@
+// The matrix of a message: what a write does once the tests 1 to 5 are passed. The net bits, the word, the
+// stuffing bits and the interleaving lie in the work buffer one after the other; the matrix is stored last.
+//
+// `jabcode::write` is the way in. It makes the tests before, and clears the work buffer behind.
+use symbology::Answer;
+use symbology::Params;
+use symbology::Sizes;
+ghost use Prim.Native.Nat.{_≤_, _<_};
+ghost use mathlib.Core.Path.{_≡_};
+ghost use mathlib.Core.Bool.{true};
+ghost use lib.ListN.{length};
+ghost use Rattle.symbology.specs.Bits.{AllBits};
+ghost use Rattle.symbology.specs.Stream.{byteStream};
+ghost use Rattle.symbology.specs.Net.{stuffing};
+ghost use Rattle.symbology.specs.Tests.{sizesFor};
+ghost use Rattle.symbology.specs.Write.{writtenMatrix, writeAnswer, matrixAfterWrite, isLegal};
+ghost use Rattle.ldpc.specs.Work.{CodeSizes, netFor};
+ghost use Rattle.symbol_writer.specs.Writing.{NetStored, BitsPlaced};
+
+// Stores the net bits of a message.
+fn store_net(message: &[u8], work: &mut [u8], s: Sizes)
+    requires { ⌜ CodeSizes s × (s .work ≤ length (now work)) × (length (byteStream (now message)) < s .net) ⌝ }
+    ensures { λ _. ⌜ NetStored s (now (message .entry)) (now (work .entry)) (now (work .exit)) ⌝ }
+{
+    let at = ldpc::areas(s).message;
+    let end = at + s.net;
+    stream_writer::write_net(message, &mut work[at..end]);
+}
+
+// Stores the stuffing bits 0, 1, 0, ..
+fn stuff(out: &mut [u8])
+    ensures { λ _. ⌜ now (out .exit) ≡ stuffing (length (now (out .entry))) ⌝ }
+{
+    let mut i = 0;
+    while i < out.len() {
+        out[i] = (i % 2) as u8;
+        i += 1;
+    }
+}
+
+// Stores the C bits of the net bits: the codeword and the stuffing behind it, interleaved.
+fn place_bits(work: &mut [u8], s: Sizes)
+    requires { ⌜ CodeSizes s × (s .work ≤ length (now work)) × AllBits (netFor s (now work)) ⌝ }
+    ensures { λ _. ⌜ BitsPlaced s (now (work .entry)) (now (work .exit)) ⌝ }
+{
+    let at = ldpc::areas(s).word;
+    let seam = at + s.gross;
+    let end = at + s.capacity;
+    ldpc::encode(work, s);
+    stuff(&mut work[seam..end]);
+    shuffle::shuffle(&mut work[at..end], shuffle::INTERLEAVING_SEED);
+}
+
+// Stores the matrix of a message that fits.
+fn store_matrix(
+    p: Params,
+    list: &[u16],
+    message: &[u8],
+    matrix: &mut [u8],
+    work: &mut [u8],
+    s: Sizes,
+)
+    requires { ⌜ (isLegal p (now list) (length (now matrix)) (length (now work)) ≡ true) × (s ≡ sizesFor p (now list)) × (length (byteStream (now message)) < s .net) ⌝ }
+    ensures { λ _. ⌜ now (matrix .exit) ≡ writtenMatrix p (now (list .entry)) (now (message .entry)) ⌝ }
+{
+    store_net(message, work, s);
+    place_bits(work, s);
+    let at = ldpc::areas(s).word;
+    let end = at + s.capacity;
+    layout::fill(p, list, &work[at..end], matrix);
+}
+
+// Test 6, and the matrix of a message that fits. A message that does not fit changes nothing.
+pub fn write_legal(
+    p: Params,
+    list: &[u16],
+    message: &[u8],
+    matrix: &mut [u8],
+    work: &mut [u8],
+) -> Answer
+    requires { ⌜ isLegal p (now list) (length (now matrix)) (length (now work)) ≡ true ⌝ }
+    ensures { λ r. ⌜ r ≡ writeAnswer p (now (list .entry)) (now (message .entry)) (length (now (matrix .entry))) (length (now (work .entry))) ⌝ }
+    ensures { λ _. ⌜ now (matrix .exit) ≡ matrixAfterWrite p (now (list .entry)) (now (message .entry)) (length (now (work .entry))) (now (matrix .entry)) ⌝ }
+{
+    let s = capacity::sizes_of(p, list.len() / 3);
+    if stream_writer::exceeds_net(message, s.net) {
+        return Answer {
+            number: 6,
+            place: 0,
+        };
+    }
+    store_matrix(p, list, message, matrix, work, s);
+    Answer {
+        number: 0,
+        place: 0,
+    }
+}
