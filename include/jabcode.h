@@ -3,11 +3,13 @@
  * One primary or secondary symbol of 4 or 8 colours, as ISO/IEC 23634 and BSI TR-03137-2 define it. Each call answers every
  * input; what it answers and what it leaves in each buffer is proved equal to a definition (crates/jabcode_c). No call keeps
  * anything between calls, allocates memory, or calls anything but memset; two calls with different buffers may run at once.
+ * As compiled, the stack frames of all functions together take less than 4 KB, and none calls itself.
  *
  * What the caller owes, and no call can test:
  * - A pointer is not null, also where its length is 0, is aligned for its type, and points at as many elements as the length
  *   beside it says (params and answer: as many as their brackets say).
- * - A buffer that a call stores to (matrix in jab_write; work, message in jab_read; answer) overlaps no other argument.
+ * - A buffer that a call stores to overlaps no other argument. These are answer and work in every call that has them, matrix in
+ *   jab_write and message in jab_read.
  *
  * The archive is for x86-64, where size_t has 64 bits.
  */
@@ -36,7 +38,8 @@ extern "C" {
  *   [10] turn                     0 or 1: how the alignment patterns X0 and X1 lie
  *
  * reserved: the palette and metadata modules, three numbers to an entry: column and row, counted from 1, and colour index. At
- * most 1,024 entries, none on a finder or alignment pattern and no module twice. reserved_len counts numbers, not entries.
+ * most 1,024 entries, each inside the symbol, on no finder or alignment pattern, on a module of its own, and with a colour below
+ * N. reserved_len counts numbers, not entries.
  *
  * A matrix has one byte a module, a colour index, row after row from the upper left. */
 
@@ -44,12 +47,14 @@ extern "C" {
  *
  *    0  done
  *    1  a parameter is outside its range
- *    2  bad reserved list; place = entry, from 0
+ *    2  bad reserved list. The place is the number of whole entries where reserved_len is not a multiple of three, else 1,024
+ *       where there are more entries, else the first bad entry, counted from 0
  *    3  the capacity C is below wr, or above 4,096 bits
  *    4  matrix_len is not columns * rows
- *    5  work_len is too small
- *    6  write: the message needs more than the net bits
- *    7  read: a module is N or more; place = its index in the matrix
+ *    5  work_len is below what jab_sizes says
+ *    6  write: the message's stream and its end mark exceed the net bits. They take 1 bit for an empty message, 8 * n + 12 for n
+ *       bytes from 1 to 15, and 8 * n + 25 for more; no symbol has room for a message that would take a second run
+ *    7  read: a module is N or more. The place is the first such module's index in the matrix, counted from 0
  *    8  read: a stuffing bit is wrong
  *    9  read: the word cannot be mended (stuck)
  *   10  read: a spare message column is 1
@@ -59,7 +64,7 @@ extern "C" {
  *   14  read: the message is longer than its buffer
  *
  * answer[1] is the place, which is 0 with all numbers but 2 and 7. A place that 32 bits do not hold is given as UINT32_MAX: that
- * of a reserved list of 12,884,901,888 numbers or more. Every other number of an answer is given as it is. */
+ * can only be the place of 2, with a reserved_len of 12,884,901,888 or more. Every other number of an answer is given as it is. */
 
 /* What a symbol needs. answer: number (0 to 3), place, columns, rows, capacity C in bits, net bits, and the least work_len of
  * the other two calls; the last five are 0 on refusal. */

@@ -1,11 +1,10 @@
--- The calls, put together: where the tests 1 to 5 refuse, and where they pass and the work buffer is cleared behind the rest.
+-- The calls, put together: where the tests 1 to 5 refuse, and where they pass.
 -- Assumes nothing.
 use Prim.Native.Nat.{ℕ, _-_}
 use mathlib.Core.Path.{_≡_, sym, ap, _∙_, subst⁻¹}
 use mathlib.Core.Bool.{true}
 use mathlib.Core.List.{List, [], _∷_}
-use native.Mathlib.Omega.{arith}
-use lib.ListN.{length, replicate}
+use lib.ListN.{length}
 use borrow.Author.Tests.{eq-eqb, ne-eqb}
 use Rattle.symbology.specs.declared.Params.{Params}
 use Rattle.symbology.specs.declared.Answer.{Answer}
@@ -16,28 +15,12 @@ use Rattle.symbology.specs.Tests.{Row, on, firstOf, frontTests, sizesFor}
 use Rattle.symbology.specs.Write.{answer, writeTests, writeAnswer, matrixAfterWrite, isLegal, workAfter}
 use Rattle.symbology.specs.Read.{refused, answerFromMatrix, readAnswer, reachesChecks, messageIn, messageAfter}
 use Rattle.symbology.specs.Mending.{Mends}
-use Rattle.laws.proofs.Tests.{first-append, front-passed, front-refuses, legal}
-use Rattle.laws.proofs.Answers.{refused-write, refused-read, work-cleared, work-untouched}
+use Rattle.laws.proofs.Tests.{first-append, front-refuses}
+use Rattle.laws.proofs.Answers.{refused-write, refused-read, work-untouched}
 use Rattle.laws.proofs.Mending.{mends}
-use Rattle.lent.specs.Buffer.{Cleared}
-use Rattle.lent.proofs.Buffer.{cleared-rest}
+use Rattle.jabcode.specs.Calls.{Writes, Reads}
 
--- what a write gave and left is the defined
-abbrev pub Writes : Params → List ℕ → List ℕ → List ℕ → List ℕ → Answer → List ℕ → List ℕ → Type 0
-Writes p l message matrix work a matrix′ work′ =
-    (a ≡ writeAnswer p l message (length matrix) (length work))
-    × ((matrix′ ≡ matrixAfterWrite p l message (length work) matrix)
-    × (work′ ≡ workAfter p l (length matrix) work))
-
--- what a read gave and left is the defined, and it mends by the rule where it reaches the checks
-abbrev pub Reads : Params → List ℕ → List ℕ → List ℕ → List ℕ → ReadAnswer → List ℕ → List ℕ → Type 0
-Reads p l matrix work message a work′ message′ =
-    (a ≡ readAnswer p l matrix (length work) (length message))
-    × ((message′ ≡ messageAfter a (messageIn p l matrix) message)
-    × ((work′ ≡ workAfter p l (length matrix) work)
-    × (reachesChecks p l matrix (length work) ≡ true → Mends p l matrix message a message′)))
-
--- ---- the tests 1 to 5 and the work buffer
+-- ---- the tests 1 to 5
 
 -- the answer a of the tests 1 to 5
 module _ (p : Params) (l work : List ℕ) (modules : ℕ) {a : Answer} (told : a ≡ firstOf (frontTests answer p l modules (length work)) (answer 0 0)) where
@@ -52,16 +35,6 @@ module _ (p : Params) (l work : List ℕ) (modules : ℕ) {a : Answer} (told : a
   untouched some =
       let first : Answer = firstOf (frontTests answer p l modules (length work)) (answer 0 0) in
       sym (work-untouched p l work modules (ne-eqb (first .number) 0 (λ z. some (ap (λ (b : Answer). b .number) told ∙ z))))
-
--- the work buffer is cleared
-all-cleared : (p : Params) (l work : List ℕ) (modules : ℕ) {used after : List ℕ}
-    → isLegal p l modules (length work) ≡ true
-    → length used ≡ length work
-    → Cleared 0 (length used) used after
-    → after ≡ workAfter p l modules work
-all-cleared p l work modules {used} {after} e long c =
-    let same : length used - 0 ≡ length work = omega (arith, long) in
-    cleared-rest 0 used after (omega arith) c ∙ ap (λ (n : ℕ). replicate {A = ℕ} n 0) same ∙ sym (work-cleared p l work modules e)
 
 -- ---- write
 
@@ -78,14 +51,6 @@ module _ (p : Params) (l message matrix work : List ℕ) {a : Answer} where
       let kept : matrixAfterWrite p l message (length work) matrix ≡ matrix =
       refused-write p l message matrix (length work) (λ z. some (ap (λ (b : Answer). b .number) (sym same) ∙ z)) in
       (sym same, (sym kept, untouched p l work (length matrix) told some))
-
-  pub write-passed : {matrix′ used after : List ℕ}
-      → isLegal p l (length matrix) (length work) ≡ true
-      → (a ≡ writeAnswer p l message (length matrix) (length work)) × (matrix′ ≡ matrixAfterWrite p l message (length work) matrix)
-      → length used ≡ length work
-      → Cleared 0 (length used) used after
-      → Writes p l message matrix work a matrix′ after
-  write-passed e w long c = (w .0, (w .1, all-cleared p l work (length matrix) e long c))
 
 -- ---- read
 
@@ -114,14 +79,8 @@ module _ (p : Params) (l matrix work message : List ℕ) {r : ReadAnswer} where
       sym (refused-read r (messageIn p l matrix) message (λ z. some (sym (ap (λ (b : ReadAnswer). b .number) is) ∙ z))) in
       (same, (kept, (untouched p l work (length matrix) told some, mending p l matrix work message same kept)))
 
-  pub read-passed : {message′ used after : List ℕ}
-      → isLegal p l (length matrix) (length work) ≡ true
-      → (r ≡ answerFromMatrix p l matrix (length message)) × (message′ ≡ messageAfter r (messageIn p l matrix) message)
-      → length used ≡ length work
-      → Cleared 0 (length used) used after
-      → Reads p l matrix work message r after message′
-  unfolding readAnswer
-  read-passed e w long c =
-      let same : r ≡ readAnswer p l matrix (length work) (length message) =
-      w .0 ∙ sym (front-passed refused p l (length matrix) (length work) (answerFromMatrix p l matrix (length message)) (legal p l (length matrix) (length work) e)) in
-      (same, (w .1, (all-cleared p l work (length matrix) e long c, mending p l matrix work message same (w .1))))
+  pub read-passed : {work′ message′ : List ℕ}
+      → (r ≡ readAnswer p l matrix (length work) (length message))
+      × ((message′ ≡ messageAfter r (messageIn p l matrix) message) × (work′ ≡ workAfter p l (length matrix) work))
+      → Reads p l matrix work message r work′ message′
+  read-passed g = (g .0, (g .1 .0, (g .1 .1, mending p l matrix work message (g .0) (g .1 .0))))

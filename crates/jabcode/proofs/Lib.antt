@@ -1,2 +1,2 @@
-pub mod Calls
+mod Calls
 mod RoundTrip

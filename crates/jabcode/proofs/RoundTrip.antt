@@ -21,11 +21,11 @@ use Rattle.laws.proofs.Tests.{legal}
 use Rattle.laws.proofs.Answers.{refused-read, work-cleared, work-untouched}
 use Rattle.laws.proofs.RoundTrip.{writes-and-reads, length-write}
 use Rattle.jabcode.specs.RoundTrip.{answerReadBack, ReadsBack}
-use Rattle.jabcode.proofs.Calls.{Writes, Reads}
+use Rattle.jabcode.specs.Calls.{Writes, Reads}
 
 -- what the call gave and left is what its contract says
-abbrev pub ReadBack : Params → List ℕ → List ℕ → List ℕ → List ℕ → List ℕ → ReadAnswer → List ℕ → List ℕ → List ℕ → Type 0
-ReadBack p l message matrix work back a matrix′ work′ back′ =
+abbrev pub WritesThenReads : Params → List ℕ → List ℕ → List ℕ → List ℕ → List ℕ → ReadAnswer → List ℕ → List ℕ → List ℕ → Type 0
+WritesThenReads p l message matrix work back a matrix′ work′ back′ =
     (a ≡ answerReadBack p l message matrix (length work) (length back))
     × ((matrix′ ≡ matrixAfterWrite p l message (length work) matrix)
     × ((back′ ≡ messageAfter a (messageIn p l matrix′) back)
@@ -54,7 +54,7 @@ twice p l work modules =
 module _ (p : Params) (l message matrix work back : List ℕ) {a : Answer} {matrix′ work′ : List ℕ} (w : Writes p l message matrix work a matrix′ work′) where
   -- the write is refused
   pub not-written : {r : ReadAnswer} → (a .number ≡ 0 → ⊥) → r ≡ refused (a .number) (a .place)
-      → ReadBack p l message matrix work back r matrix′ work′ back
+      → WritesThenReads p l message matrix work back r matrix′ work′ back
   unfolding answerReadBack
   not-written {r} some is =
       let defined : Answer = writeAnswer p l message (length matrix) (length work) in
@@ -85,10 +85,10 @@ module _ (p : Params) (l message matrix work back : List ℕ) {a : Answer} {matr
       )
 
   -- it is done, and its matrix is read
-  pub read-back : {r : ReadAnswer} {work″ back′ : List ℕ} → AllBytes message → a .number ≡ 0 → Reads p l matrix′ work′ back r work″ back′
-      → ReadBack p l message matrix work back r matrix′ work″ back′
+  pub then-read : {r : ReadAnswer} {work″ back′ : List ℕ} → AllBytes message → a .number ≡ 0 → Reads p l matrix′ work′ back r work″ back′
+      → WritesThenReads p l message matrix work back r matrix′ work″ back′
   unfolding answerReadBack
-  read-back {r} {work″} bytes none got =
+  then-read {r} {work″} bytes none got =
       let defined : Answer = writeAnswer p l message (length matrix) (length work) in
       let number : defined .number ≡ 0 = ap (λ (b : Answer). b .number) (sym (w .0)) ∙ none in
       let after : List ℕ = matrixAfterWrite p l message (length work) matrix in

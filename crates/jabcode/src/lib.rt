@@ -2,7 +2,7 @@
 // the library's calls. Each answers every input with document 01's number and place, and its contract fixes
 // the answer and every lent buffer by equality with a definition.
 //
-// A call makes the tests 1 to 5, hands the rest to one function, and clears the work buffer behind it.
+// `write` and `read` make the tests 1 to 5 and hand legal input on to the crates of their stages.
 use symbology::Answer;
 use symbology::Params;
 use symbology::ReadAnswer;
@@ -35,9 +35,7 @@ pub fn write(p: Params, list: &[u16], message: &[u8], matrix: &mut [u8], work: &
     if first.number != 0 {
         return first;
     }
-    let answer = symbol_writer::write_legal(p, list, message, matrix, work);
-    lent::clear(work, 0, work.len());
-    answer
+    symbol_writer::write_legal(p, list, message, matrix, work)
 }
 
 // Reads a sampled matrix. On 0 the first bytes of the message buffer are the message, as many as the answer
@@ -55,14 +53,11 @@ pub fn read(
     ensures { λ _. ⌜ now (work .exit) ≡ workAfter p (now (list .entry)) (length (now (matrix .entry))) (now (work .entry)) ⌝ }
     ensures { λ r. ⌜ (reachesChecks p (now (list .entry)) (now (matrix .entry)) (length (now (work .entry))) ≡ true → Mends p (now (list .entry)) (now (matrix .entry)) (now (message .entry)) r (now (message .exit))) ⌝ }
 {
-    let tests = capacity::front_tests(p, list, matrix.len(), work.len());
-    if tests.number != 0 {
-        return symbol_reader::refusal(tests.number, tests.place);
+    let first = capacity::front_tests(p, list, matrix.len(), work.len());
+    if first.number != 0 {
+        return symbol_reader::early_refusal(first.number, first.place);
     }
-    let answer = symbol_reader::read_legal(p, list, matrix, work, message);
-    let end = work.len();
-    lent::clear(work, 0, end);
-    answer
+    symbol_reader::read_legal(p, list, matrix, work, message)
 }
 
 // Writes a message and reads the matrix with the same parameters and list, so that a label is seen to read
@@ -85,7 +80,7 @@ pub fn write_and_read(
 {
     let written = write(p, list, message, matrix, work);
     if written.number != 0 {
-        return symbol_reader::refusal(written.number, written.place);
+        return symbol_reader::early_refusal(written.number, written.place);
     }
     read(p, list, matrix, work, back)
 }

@@ -1,17 +1,15 @@
 -- The calls for C, from the contracts of the calls: the answers' numbers, word by word.
 -- Assumes nothing.
 use Prim.Native.Nat.{ℕ}
-use mathlib.Core.Path.{_≡_, ap, _∙_, subst}
+use mathlib.Core.Path.{_≡_, refl, ap, _∙_, subst}
 use mathlib.Core.List.{List, [], _∷_}
 use Rattle.symbology.specs.declared.Params.{Params}
 use Rattle.symbology.specs.declared.Answer.{Answer}
 use Rattle.symbology.specs.declared.ReadAnswer.{ReadAnswer}
 use Rattle.symbology.specs.declared.SizesAnswer.{SizesAnswer}
 use Rattle.symbology.specs.SizesAnswer.{sizesAnswer}
-use Rattle.symbology.specs.Read.{messageIn, messageAfter}
-use Rattle.symbology.specs.Mending.{Mends}
-use Rattle.jabcode.proofs.Calls.{Writes, Reads}
-use Rattle.jabcode_c.specs.Words.{paramsOf, wordOf, sizesWords, writeWords, readWords}
+use Rattle.jabcode.specs.Calls.{Writes, Reads}
+use Rattle.jabcode_c.specs.Words.{paramsOf, wordOf, sizesWords}
 use Rattle.jabcode_c.specs.Calls.{WritesFor, ReadsFor}
 
 pub sizes-for : (w l : List ℕ) {p : Params} {a : SizesAnswer} {place columns rows capacity net work : ℕ}
@@ -33,12 +31,7 @@ pub writes-for : (w l message matrix work : List ℕ) {p : Params} {a : Answer} 
     → place ≡ wordOf (a .place)
     → WritesFor w l message matrix work matrix′ work′ (a .number ∷ place ∷ [])
 writes-for w l message matrix work {a = a} {matrix′} {work′} e is h =
-    let got : Writes (paramsOf w) l message matrix work a matrix′ work′ = subst (λ (q : Params). Writes q l message matrix work a matrix′ work′) e is in
-    record {
-      answer-is = ap (λ (n : ℕ). a .number ∷ n ∷ []) h ∙ ap writeWords (got .0);
-      matrix-is = got .1 .0;
-      work-is = got .1 .1;
-    }
+    (a, ap (λ (n : ℕ). a .number ∷ n ∷ []) h, subst (λ (q : Params). Writes q l message matrix work a matrix′ work′) e is)
 
 pub reads-for : (w l matrix work message : List ℕ) {p : Params} {a : ReadAnswer} {work′ message′ : List ℕ} {place long repairs unmet : ℕ}
     → p ≡ paramsOf w
@@ -49,10 +42,4 @@ pub reads-for : (w l matrix work message : List ℕ) {p : Params} {a : ReadAnswe
     → unmet ≡ wordOf (a .unmet)
     → ReadsFor w l matrix work message work′ message′ (a .number ∷ place ∷ long ∷ repairs ∷ unmet ∷ [])
 reads-for w l matrix work message {a = a} {work′} {message′} e is h1 h2 h3 h4 =
-    let got : Reads (paramsOf w) l matrix work message a work′ message′ = subst (λ (q : Params). Reads q l matrix work message a work′ message′) e is in
-    record {
-      answer-is = rw (h1, h2, h3, h4) (ap readWords (got .0));
-      message-is = got .1 .0 ∙ ap (λ (b : ReadAnswer). messageAfter b (messageIn (paramsOf w) l matrix) message) (got .0);
-      work-is = got .1 .1 .0;
-      mends = λ reaching. subst (λ (b : ReadAnswer). Mends (paramsOf w) l matrix message b message′) (got .0) (got .1 .1 .1 reaching);
-    }
+    (a, rw (h1, h2, h3, h4) refl, subst (λ (q : Params). Reads q l matrix work message a work′ message′) e is)

@@ -27,8 +27,8 @@ paramsOf w =
       turn = getD w 10 0;
     }
 
--- A number as 32 bits have it: one that does not fit is given as the greatest that does. The laws of this name say that only the place
--- of a refusal 2 can be such a one.
+-- A number as 32 bits have it: one that does not fit is given as the greatest that does. That only the place of a refusal 2 can be such
+-- a one is proved in proofs/Words.
 abbrev pub wordOf : ℕ → ℕ
 wordOf n = cond (ltb n 4294967296) n 4294967295
 

@@ -68,7 +68,7 @@ pub extern "C" fn jab_write(
     *answer = [a.number, word(a.place)];
 }
 
-// Reads a sampled matrix. What it is held to has demand 3, as the contract of `jabcode::read` has.
+// Reads a sampled matrix. Its contract has demand 3, as that of `jabcode::read`.
 #[no_mangle]
 pub extern "C" fn jab_read(
     params: &[u32; 11],

@@ -8,8 +8,8 @@ use mathlib.Core.List.{List, [], _∷_, _++_}
 use native.Mathlib.Omega.{arith}
 use native.Mathlib.Decide.{decLt}
 use lib.Dec.{eqb}
-use lib.ListN.{length, take, replicate, length-append, length-replicate, List·getD-eq-default}
-use lib.Seq.{take-at, length-take-le}
+use lib.ListN.{length, getD, take, replicate, length-append, length-replicate, List·getD-eq-default}
+use lib.Seq.{take-at, length-take-le, ext-getD}
 use borrow.Author.Tests.{eq-eqb, ne-eqb, eqb-true, eqb-false}
 use Rattle.symbology.specs.Ranges.{tally, tabulate}
 use Rattle.symbology.specs.Bits.{AllBits, anyOne}
@@ -163,10 +163,19 @@ pub length-stuffing : (n : ℕ) → length (stuffing n) ≡ n
 unfolding stuffing
 length-stuffing n = length-tabulate n (λ i. i % 2)
 
+pub stuffing-at : (n i : ℕ) → i < n → getD (stuffing n) i 0 ≡ i % 2
+unfolding stuffing
+stuffing-at n i h = getD-tabulate n (λ k. k % 2) 0 i h
+
+-- 0, 1, 0, .. are stuffing bits
+pub stuffing-is : (xs : List ℕ) → ((i : ℕ) → i < length xs → getD xs i 0 ≡ i % 2) → xs ≡ stuffing (length xs)
+stuffing-is xs each =
+    ext-getD 0 xs (stuffing (length xs)) (sym (length-stuffing (length xs))) (λ i h. each i h ∙ sym (stuffing-at (length xs) i h))
+
 -- stuffing bits are bits
 pub stuffing-bits : (n : ℕ) → AllBits (stuffing n)
 unfolding stuffing
 stuffing-bits n i = elim (decLt i n) [
-  | yes h ↦ omega (arith, getD-tabulate n (λ k. k % 2) 0 i h)
+  | yes h ↦ omega (arith, stuffing-at n i h)
   | no h ↦ omega (arith, List·getD-eq-default (tabulate n (λ k. k % 2)) 0 {n = i} (omega (arith, length-tabulate n (λ k. k % 2))))
 ]

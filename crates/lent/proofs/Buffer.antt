@@ -42,9 +42,12 @@ part-same xs ys at n h g same =
 pub lent-width : (at n : ℕ) → at + n - at ≡ n
 lent-width at n = omega arith
 
--- such a part
+-- such a part, and its length
 pub part-lent : (xs : List ℕ) (at n : ℕ) → part xs at (at + n - at) ≡ part xs at n
 part-lent xs at n = ap (part xs at) (lent-width at n)
+
+pub length-lent : (xs : List ℕ) (at n : ℕ) → at + n ≤ length xs → length (part xs at (at + n - at)) ≡ n
+length-lent xs at n room = ap length (part-lent xs at n) ∙ length-part xs at n room
 
 -- a part of a part, from its first place on
 pub part-front : (xs : List ℕ) (at n k : ℕ) → k ≤ n → take k (part xs at n) ≡ part xs at k
@@ -194,6 +197,29 @@ module _ (at n : ℕ) (xs ys : List ℕ) (room : at + n ≤ length xs) (long : l
             ∙ getD-drop at xs (n + k) 0
             ∙ ap (λ (j : ℕ). getD xs j 0) inside;
       }
+
+-- the buffer after a list came back for the n places from a place on, as code lends them
+abbrev pub givenBack : ℕ → ℕ → List ℕ → List ℕ → List ℕ
+givenBack at n xs ys = putMid at (at + n - at) xs ys
+
+module _ (at n : ℕ) (xs ys : List ℕ) (room : at + n ≤ length xs) (long : length ys ≡ n) where
+  pub length-back : length (givenBack at n xs ys) ≡ length xs
+  length-back = rw (lent-width at n) (length-put at n xs ys room long)
+
+  pub part-back : part (givenBack at n xs ys) at n ≡ ys
+  part-back = rw (lent-width at n) (part-put at n xs ys room long)
+
+  -- the first k places of the part
+  pub front-back : (k : ℕ) → k ≤ n → part (givenBack at n xs ys) at k ≡ take k ys
+  front-back k h = sym (part-front (givenBack at n xs ys) at n k h) ∙ ap (take k) part-back
+
+  -- the others
+  pub behind-back : (k : ℕ) → k ≤ n → part (givenBack at n xs ys) (at + k) (at + n - (at + k)) ≡ drop k ys
+  behind-back k h =
+      let rest : at + n - (at + k) ≡ n - k = omega arith in
+      ap (part (givenBack at n xs ys) (at + k)) rest
+      ∙ sym (part-behind (givenBack at n xs ys) at n k h (omega (arith, length-back)))
+      ∙ ap (drop k) part-back
 
 -- ---- clearing
 

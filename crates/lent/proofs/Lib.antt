@@ -1,2 +1,3 @@
 pub mod Buffer
 mod Counting
+pub mod Work

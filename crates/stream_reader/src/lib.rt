@@ -93,7 +93,7 @@ pub fn up_to_last_one(net: &[u8]) -> usize
 }
 
 // A refusal that comes after the mending: its counts stand, the length is 0.
-pub fn refusal(number: u32, repairs: usize, unmet: usize) -> ReadAnswer
+pub fn late_refusal(number: u32, repairs: usize, unmet: usize) -> ReadAnswer
     ensures { λ r. ⌜ r ≡ counted number repairs unmet ⌝ }
 {
     ReadAnswer {
@@ -113,15 +113,15 @@ pub fn read_net(net: &[u8], repairs: usize, unmet: usize, message: &mut [u8]) ->
 {
     let end = up_to_last_one(net);
     if end == 0 {
-        return refusal(11, repairs, unmet);
+        return late_refusal(11, repairs, unmet);
     }
     let mark = end - 1;
     let first = read_stream(&net[..mark], &mut message[..0]);
     if first.number != 0 {
-        return refusal(first.number, repairs, unmet);
+        return late_refusal(first.number, repairs, unmet);
     }
     if message.len() < first.count {
-        return refusal(14, repairs, unmet);
+        return late_refusal(14, repairs, unmet);
     }
     let second = read_stream(&net[..mark], message);
     ReadAnswer {

@@ -17,8 +17,9 @@ use Rattle.symbology.specs.Stream.{decode}
 use Rattle.symbology.specs.Net.{streamIn}
 use Rattle.symbology.specs.Placement.{firstBadModule}
 use Rattle.symbology.specs.Tests.{Row, on, sizesFor}
-use Rattle.symbology.specs.Read.{refused, counted, receivedBits, receivedWord, wrongStuffing, checksFor, messageBitsFor, answerFromNet, answerFromAccepted, answerFromReceived, answerFromMatrix, messageInAccepted, messageIn, messageAfter}
-use Rattle.laws.proofs.Tests.{first-hit, first-miss, first-none}
+use Rattle.symbology.specs.Write.{isLegal}
+use Rattle.symbology.specs.Read.{refused, counted, receivedBits, receivedWord, wrongStuffing, checksFor, messageBitsFor, answerFromNet, answerFromAccepted, answerFromReceived, answerFromMatrix, readAnswer, messageInAccepted, messageIn, messageAfter}
+use Rattle.laws.proofs.Tests.{first-hit, first-miss, first-none, front-passed, legal}
 use Rattle.laws.proofs.Answers.{refused-read}
 use Rattle.laws.proofs.Stages.{from-stuck, from-mended}
 use Rattle.ldpc.specs.Work.{wordFor}
@@ -130,3 +131,10 @@ module _ (p : Params) (l matrix before : List ℕ) where
         let moved : FromReceived s (receivedWord p l matrix) before a after = subst (λ (x : List ℕ). FromReceived s x before a after) word read in
         let given : FromReceived (sizesFor p l) (receivedWord p l matrix) before a after = subst (λ (z : Sizes). FromReceived z (receivedWord p l matrix) before a after) sizes moved in
         (given .0 ∙ sym (first-miss row7 (row8 ∷ []) onward passed-7 ∙ first-miss row8 [] onward t ∙ first-none onward), given .1)
+
+-- a read of legal input
+pub legal-read : (p : Params) (l matrix : List ℕ) (work room : ℕ) → isLegal p l (length matrix) work ≡ true
+    → answerFromMatrix p l matrix room ≡ readAnswer p l matrix work room
+unfolding readAnswer
+legal-read p l matrix work room e =
+    sym (front-passed refused p l (length matrix) work (answerFromMatrix p l matrix room) (legal p l (length matrix) work e))

@@ -7,7 +7,6 @@ use mathlib.Core.Bool.{Bool, true, not}
 use mathlib.Core.List.{List}
 use native.Mathlib.Omega.{arith}
 use lib.ListN.{length, take, drop, length-drop}
-use borrow.Rule.Slice.PartMut.{putMid}
 use Rattle.symbology.specs.declared.Params.{Params}
 use Rattle.symbology.specs.declared.Sizes.{Sizes}
 use Rattle.symbology.specs.Bits.{AllBits}
@@ -25,35 +24,9 @@ use Rattle.layout.specs.Walk.{SizedSymbol}
 use Rattle.layout.proofs.Legal.{legal-symbol}
 use Rattle.lent.specs.declared.Areas.{Areas}
 use Rattle.lent.specs.Buffer.{part}
-use Rattle.lent.proofs.Buffer.{length-part, lent-width, part-lent, part-front, part-behind, length-put, part-put}
+use Rattle.lent.proofs.Buffer.{part-lent, length-lent, givenBack, length-back, front-back, behind-back}
 use Rattle.ldpc.specs.Work.{areasOf, CodeSizes, wordFor, netFor}
 use Rattle.ldpc.proofs.Work.{legal-sizes, bits-inside}
-
--- ---- parts that are lent, as the code writes their ends
-
--- the buffer after a list came back in the n places from a place on
-abbrev stored : ℕ → ℕ → List ℕ → List ℕ → List ℕ
-stored at n xs ys = putMid at (at + n - at) xs ys
-
-module _ (at n : ℕ) (xs ys : List ℕ) (room : at + n ≤ length xs) (long : length ys ≡ n) where
-  length-stored : length (stored at n xs ys) ≡ length xs
-  length-stored = length-put at (at + n - at) xs ys (omega arith) (omega arith)
-
-  -- the part is the list
-  part-stored : part (stored at n xs ys) at n ≡ ys
-  part-stored = rw (lent-width at n) (part-put at n xs ys room long)
-
-  -- the first k of the list
-  front-stored : (k : ℕ) → k ≤ n → part (stored at n xs ys) at k ≡ take k ys
-  front-stored k h = sym (part-front (stored at n xs ys) at n k h) ∙ ap (take k) part-stored
-
-  -- the others
-  behind-stored : (k : ℕ) → k ≤ n → take (at + n - (at + k)) (drop (at + k) (stored at n xs ys)) ≡ drop k ys
-  behind-stored k h =
-      let rest : at + n - (at + k) ≡ n - k = omega arith in
-      ap (λ (m : ℕ). take m (drop (at + k) (stored at n xs ys))) rest
-      ∙ sym (part-behind (stored at n xs ys) at n k h (omega (arith, length-stored)))
-      ∙ ap (drop k) part-stored
 
 -- ---- the net bits
 
@@ -90,7 +63,7 @@ module _ {p : Params} {l : List ℕ} {modules : ℕ} {work : List ℕ} {s : Size
       SizedSymbol p l (length out) modules × (length out ≤ 4096)
   bits-lent =
       let c : ℕ = s .capacity in
-      let many : length (take (a .word + c - a .word) (drop (a .word) work)) ≡ c = length-part work (a .word) (a .word + c - a .word) (omega (arith, bits-fit)) ∙ omega arith in (
+      let many : length (part work (a .word) (a .word + c - a .word)) ≡ c = length-lent work (a .word) c bits-fit in (
         legal-symbol p l modules (length work) (k .legal-is) (many ∙ ap (λ (z : Sizes). z .capacity) (k .sizes-are)),
         omega (arith, k .code .few),
       )
@@ -98,7 +71,7 @@ module _ {p : Params} {l : List ℕ} {modules : ℕ} {work : List ℕ} {s : Size
   -- the buffer once they are received
   module _ (matrix : List ℕ) {bits : List ℕ} (got : bits ≡ receivedBits p l matrix) where
     abbrev after : List ℕ
-    after = stored (a .word) (s .capacity) work bits
+    after = givenBack (a .word) (s .capacity) work bits
 
     many-bits : length bits ≡ s .capacity
     unfolding receivedBits
@@ -108,31 +81,31 @@ module _ {p : Params} {l : List ℕ} {modules : ℕ} {work : List ℕ} {s : Size
         ∙ sampled-whole p l matrix modules (length work) (legal p l modules (length work) (k .legal-is))
         ∙ sym (ap (λ (z : Sizes). z .capacity) (k .sizes-are))
 
-    pub same-room : length (stored (a .word) (s .capacity) work bits) ≡ length work
-    same-room = length-stored (a .word) (s .capacity) work bits bits-fit many-bits
+    pub same-room : length (givenBack (a .word) (s .capacity) work bits) ≡ length work
+    same-room = length-back (a .word) (s .capacity) work bits bits-fit many-bits
 
     -- its word
-    pub word-received : wordFor s (stored (a .word) (s .capacity) work bits) ≡ receivedWord p l matrix
+    pub word-received : wordFor s (givenBack (a .word) (s .capacity) work bits) ≡ receivedWord p l matrix
     unfolding receivedWord
     word-received =
         ap (λ (z : Areas). part after (z .word) (s .gross)) (sym (k .areas-are))
-        ∙ front-stored (a .word) (s .capacity) work bits bits-fit many-bits (s .gross) (k .code .inside)
+        ∙ front-back (a .word) (s .capacity) work bits bits-fit many-bits (s .gross) (k .code .inside)
         ∙ ap (take (s .gross)) got
         ∙ ap (λ (z : Sizes). take (z .gross) (receivedBits p l matrix)) (k .sizes-are)
 
     -- what going on from the word asks for
-    pub word-asks : let w = stored (a .word) (s .capacity) work bits in CodeSizes s × (s .work ≤ length w) × AllBits (wordFor s w)
+    pub word-asks : let w = givenBack (a .word) (s .capacity) work bits in CodeSizes s × (s .work ≤ length w) × AllBits (wordFor s w)
     word-asks = (k .code, omega (arith, same-room, k .room), subst⁻¹ AllBits word-received (received-bits p l matrix))
 
     -- test 8, of the bits behind the word
     pub stuffing-told : {r : Bool}
-        → let end = take (a .word + s .capacity - (a .word + s .gross)) (drop (a .word + s .gross) (stored (a .word) (s .capacity) work bits)) in
+        → let end = take (a .word + s .capacity - (a .word + s .gross)) (drop (a .word + s .gross) (givenBack (a .word) (s .capacity) work bits)) in
         r ≡ not (sameBits end (stuffing (length end))) → r ≡ wrongStuffing (sizesFor p l) (receivedBits p l matrix)
     unfolding wrongStuffing
     stuffing-told {r} e =
         let rest : List ℕ = drop (s .gross) bits in
         let same : take (a .word + s .capacity - (a .word + s .gross)) (drop (a .word + s .gross) after) ≡ rest =
-        behind-stored (a .word) (s .capacity) work bits bits-fit many-bits (s .gross) (k .code .inside) in
+        behind-back (a .word) (s .capacity) work bits bits-fit many-bits (s .gross) (k .code .inside) in
         let long : length rest ≡ s .capacity - s .gross = length-drop (s .gross) bits ∙ ap (λ (n : ℕ). n - s .gross) many-bits in
         e
         ∙ ap (λ (x : List ℕ). not (sameBits x (stuffing (length x)))) same

@@ -7,23 +7,15 @@ use mathlib.Core.List.{List}
 use native.Mathlib.Decide.{ℕ-discrete}
 use native.Mathlib.Omega.{arith}
 use lib.ListN.{length, getD}
-use lib.Seq.{ext-getD}
 use Rattle.symbology.specs.Net.{stuffing}
 use Rattle.symbology.specs.Read.{sameBits}
-use Rattle.laws.proofs.Ranges.{by, length-tabulate, getD-tabulate}
+use Rattle.laws.proofs.Ranges.{by}
+use Rattle.laws.proofs.Net.{stuffing-at, stuffing-is}
 use Rattle.laws.proofs.Stages.{same-self, same-means}
 
 -- the first i bits are stuffing bits
 abbrev pub StuffedTo : List ℕ → ℕ → Type 0
 StuffedTo bits i = (j : ℕ) → j < i → getD bits j 0 ≡ j % 2
-
-length-stuffing : (n : ℕ) → length (stuffing n) ≡ n
-unfolding stuffing
-length-stuffing n = length-tabulate n (λ i. i % 2)
-
-stuffing-at : (n i : ℕ) → i < n → getD (stuffing n) i 0 ≡ i % 2
-unfolding stuffing
-stuffing-at n i h = getD-tabulate n (λ j. j % 2) 0 i h
 
 module _ (bits : List ℕ) where
   pub stuffed-next : (i : ℕ) → StuffedTo bits i → getD bits i 0 ≡ i % 2 → StuffedTo bits (i + 1)
@@ -35,8 +27,7 @@ module _ (bits : List ℕ) where
   -- all of them are stuffing bits
   pub right-bits : {i : ℕ} → StuffedTo bits i → length bits ≤ i → not (sameBits bits (stuffing (length bits))) ≡ false
   right-bits all h =
-      let same : bits ≡ stuffing (length bits) = ext-getD 0 bits (stuffing (length bits)) (sym (length-stuffing (length bits)))
-      (λ j l. all j (omega arith) ∙ sym (stuffing-at (length bits) j l)) in
+      let same : bits ≡ stuffing (length bits) = stuffing-is bits (λ j l. all j (omega arith)) in
       ap not (ap (sameBits bits) (sym same) ∙ same-self bits)
 
   -- bit i is none

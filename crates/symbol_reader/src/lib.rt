@@ -1,8 +1,8 @@
 // The message of a sampled matrix: what a read does once the tests 1 to 5 are passed. The C bits are
 // received into the work buffer, the word is mended there, and the net bits are read from it.
 //
-// `jabcode::read` is the way in. It makes the tests before, and clears the work buffer behind. The stages
-// follow document 01's tests: 7 and 8, then 9, then 10, then 11 to 14, which are `stream_reader::read_net`.
+// `jabcode::read` is the way in, and makes the tests before. The stages follow document 01's tests: 7 and
+// 8, then 9, then 10, then 11 to 14, which are `stream_reader::read_net`.
 use symbology::Params;
 use symbology::ReadAnswer;
 use symbology::Sizes;
@@ -14,12 +14,12 @@ ghost use Rattle.layout.specs.Walk.{SizedSymbol};
 ghost use Rattle.symbology.specs.Bits.{AllBits};
 ghost use Rattle.symbology.specs.Rule.{lastWord};
 ghost use Rattle.symbology.specs.Net.{stuffing};
-ghost use Rattle.symbology.specs.Write.{isLegal};
-ghost use Rattle.symbology.specs.Read.{refused, receivedBits, sameBits, checksFor, answerFromAccepted, answerFromReceived, answerFromMatrix, messageInAccepted, messageIn, messageAfter};
+ghost use Rattle.symbology.specs.Write.{isLegal, workAfter};
+ghost use Rattle.symbology.specs.Read.{refused, receivedBits, sameBits, checksFor, answerFromAccepted, answerFromReceived, answerFromMatrix, readAnswer, messageInAccepted, messageIn, messageAfter};
 ghost use Rattle.ldpc.specs.Work.{CodeSizes, wordFor, HoldsA};
 
 // A refusal that comes before the mending: its counts are 0.
-pub fn refusal(number: u32, place: usize) -> ReadAnswer
+pub fn early_refusal(number: u32, place: usize) -> ReadAnswer
     ensures { λ r. ⌜ r ≡ refused number place ⌝ }
 {
     ReadAnswer {
@@ -45,7 +45,7 @@ fn from_accepted(
     ensures { λ r. ⌜ now (message .exit) ≡ messageAfter r (messageInAccepted s (wordFor s (now (work .entry)))) (now (message .entry)) ⌝ }
 {
     if ldpc::read_message(work, s) {
-        return stream_reader::refusal(10, repairs, unmet);
+        return stream_reader::late_refusal(10, repairs, unmet);
     }
     let at = ldpc::areas(s).message;
     let end = at + s.net;
@@ -60,7 +60,7 @@ fn from_received(s: Sizes, work: &mut [u8], message: &mut [u8]) -> ReadAnswer
 {
     let mended = ldpc::mend(work, s);
     if mended.stuck {
-        return stream_reader::refusal(9, mended.repairs, mended.unmet);
+        return stream_reader::late_refusal(9, mended.repairs, mended.unmet);
     }
     from_accepted(s, work, mended.repairs, mended.unmet, message)
 }
@@ -88,8 +88,8 @@ fn is_wrong_stuffing(bits: &[u8]) -> bool
     false
 }
 
-// From a sampled matrix: 7 and 8, and what follows.
-pub fn read_legal(
+// From a sampled matrix: 7 and 8, and what follows. The work buffer is left as it was used.
+fn read_uncleared(
     p: Params,
     list: &[u16],
     matrix: &[u8],
@@ -102,7 +102,7 @@ pub fn read_legal(
 {
     let bad = layout::first_bad_module(p.colours, matrix);
     if bad < matrix.len() {
-        return refusal(7, bad);
+        return early_refusal(7, bad);
     }
     let s = capacity::sizes_of(p, list.len() / 3);
     let at = ldpc::areas(s).word;
@@ -110,7 +110,25 @@ pub fn read_legal(
     let end = at + s.capacity;
     receive(p, list, matrix, &mut work[at..end]);
     if is_wrong_stuffing(&work[seam..end]) {
-        return refusal(8, 0);
+        return early_refusal(8, 0);
     }
     from_received(s, work, message)
+}
+
+// A read of legal input. The work buffer is cleared behind it.
+pub fn read_legal(
+    p: Params,
+    list: &[u16],
+    matrix: &[u8],
+    work: &mut [u8],
+    message: &mut [u8],
+) -> ReadAnswer
+    requires { ⌜ isLegal p (now list) (length (now matrix)) (length (now work)) ≡ true ⌝ }
+    ensures { λ r. ⌜ r ≡ readAnswer p (now (list .entry)) (now (matrix .entry)) (length (now (work .entry))) (length (now (message .entry))) ⌝ }
+    ensures { λ r. ⌜ now (message .exit) ≡ messageAfter r (messageIn p (now (list .entry)) (now (matrix .entry))) (now (message .entry)) ⌝ }
+    ensures { λ _. ⌜ now (work .exit) ≡ workAfter p (now (list .entry)) (length (now (matrix .entry))) (now (work .entry)) ⌝ }
+{
+    let answer = read_uncleared(p, list, matrix, work, message);
+    lent::clear(work, 0, work.len());
+    answer
 }

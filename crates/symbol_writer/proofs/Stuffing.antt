@@ -1,15 +1,14 @@
 -- Stuffing bits stored one after the other.
 -- Assumes nothing.
 use Prim.Native.Nat.{ℕ, _+_, _%_, _≤_, _<_}
-use mathlib.Core.Path.{_≡_, refl, sym, _∙_}
+use mathlib.Core.Path.{_≡_, refl, ap, _∙_}
 use mathlib.Core.List.{List}
 use native.Mathlib.Decide.{ℕ-discrete}
 use native.Mathlib.Omega.{arith}
 use lib.ListN.{length, getD, set, length-set}
-use lib.Seq.{getD-set-same, getD-set-other, ext-getD}
+use lib.Seq.{getD-set-same, getD-set-other}
 use Rattle.symbology.specs.Net.{stuffing}
-use Rattle.laws.proofs.Ranges.{getD-tabulate}
-use Rattle.laws.proofs.Net.{length-stuffing}
+use Rattle.laws.proofs.Net.{stuffing-is}
 
 -- the first i places have the stuffing bits
 pub record StuffedTo (i : ℕ) (before after : List ℕ) : Type 0 where
@@ -33,8 +32,4 @@ module _ {i : ℕ} {before after : List ℕ} (s : StuffedTo i before after) wher
       }
 
   pub stuffed-all : length after ≤ i → after ≡ stuffing (length before)
-  unfolding stuffing
-  stuffed-all h =
-      let n : ℕ = length before in
-      ext-getD 0 after (stuffing n) (s .long ∙ sym (length-stuffing n))
-      (λ j g. s .stuffed j (omega arith) ∙ sym (getD-tabulate n (λ k. k % 2) 0 j (omega (arith, s .long))))
+  stuffed-all h = stuffing-is after (λ j g. s .stuffed j (omega arith)) ∙ ap stuffing (s .long)

@@ -24,7 +24,7 @@ use Rattle.laws.proofs.Shuffle.{length-shuffled}
 use Rattle.laws.proofs.RoundTrip.{writes-and-reads}
 use Rattle.lent.specs.declared.Areas.{Areas}
 use Rattle.lent.specs.Buffer.{part}
-use Rattle.lent.proofs.Buffer.{length-part, lent-width, part-lent, part-same, length-put, part-put, changed-put}
+use Rattle.lent.proofs.Buffer.{length-part, part-lent, length-lent, part-same, length-put, part-put, changed-put, givenBack, length-back, part-back}
 use Rattle.ldpc.specs.Work.{areasOf, CodeSizes, wordFor, netFor}
 use Rattle.ldpc.specs.Stages.{Encoded}
 use Rattle.ldpc.proofs.Work.{net-inside, bits-inside}
@@ -33,25 +33,24 @@ use Rattle.symbol_writer.specs.Writing.{NetStored, BitsPlaced}
 -- ---- the stages in the work buffer
 
 module _ {s : Sizes} (before : List ℕ) (k : CodeSizes s) (room : s .work ≤ length before) where
-  -- the part for the net bits has room for them
-  pub net-room : {a : Areas} → a ≡ areasOf s → length (part before (a .message) (a .message + s .net - a .message)) ≡ s .net
-  net-room {a} e =
-      ap length (part-lent before (a .message) (s .net)) ∙ length-part before (a .message) (s .net) (net-inside k room e)
-
   pub net-stored : {a : Areas} (message : List ℕ) {new : List ℕ}
       → a ≡ areasOf s
       → length (byteStream message) < s .net
-      → let n = a .message + s .net - a .message in
-      new ≡ withEndMark (length (part before (a .message) n)) (byteStream message)
-      → NetStored s message before (putMid (a .message) n before new)
+      → new ≡ withEndMark (length (part before (a .message) (a .message + s .net - a .message))) (byteStream message)
+      → NetStored s message before (givenBack (a .message) (s .net) before new)
   net-stored {a} message {new} e fits is =
-      let at : ℕ = areasOf s .message in
-      let here : a .message ≡ at = ap (λ (b : Areas). b .message) e in
-      let inside : at + s .net ≤ length before = omega (arith, net-inside {room = length before} k room e) in
-      let net : new ≡ withEndMark (s .net) (byteStream message) = is ∙ ap (λ (m : ℕ). withEndMark m (byteStream message)) (net-room e) in
+      let inside : a .message + s .net ≤ length before = net-inside k room e in
+      let net : new ≡ withEndMark (s .net) (byteStream message) =
+      is ∙ ap (λ (m : ℕ). withEndMark m (byteStream message)) (length-lent before (a .message) (s .net) inside) in
       let long : length new ≡ s .net = ap length net ∙ length-net (s .net) (byteStream message) fits in
-      rw (lent-width (a .message) (s .net), here)
-      (record { long = length-put at (s .net) before new inside long; net-is = part-put at (s .net) before new inside long ∙ net })
+      let after : List ℕ = givenBack (a .message) (s .net) before new in
+      record {
+        long = length-back (a .message) (s .net) before new inside long;
+        net-is =
+            ap (λ (b : Areas). part after (b .message) (s .net)) (sym e)
+            ∙ part-back (a .message) (s .net) before new inside long
+            ∙ net;
+      }
 
   -- codeword and stuffing, one behind the other
   stuffed-word : (after : List ℕ) → Encoded s before after
@@ -108,36 +107,34 @@ module _ {s : Sizes} (before : List ℕ) (k : CodeSizes s) (room : s .work ≤ l
     pub bits-placed : {new : List ℕ}
         → Stuffed
         → new ≡ shuffled 0 interleavingSeed (part later (a .word) (end - a .word))
-        → BitsPlaced s before (putMid (a .word) (end - a .word) later new)
+        → BitsPlaced s before (givenBack (a .word) (s .capacity) later new)
     unfolding placedBits
     bits-placed {new} stuffs is =
         let at : ℕ = areasOf s .word in
         let c : ℕ = s .capacity in
         let here : a .word ≡ at = ap (λ (b : Areas). b .word) e in
-        let inside : at + c ≤ length later = omega (arith, stuffed-long stuffs, bits-inside k room refl) in
-        let lent : part later (a .word) (end - a .word) ≡ part later at c = rw (lent-width (a .word) c, here) refl in
+        let inside : a .word + c ≤ length later = omega (arith, stuffed-long stuffs, bits-inside {room = length before} k room e) in
+        let lent : part later (a .word) (end - a .word) ≡ part later at c = part-lent later (a .word) c ∙ ap (λ (i : ℕ). part later i c) here in
         let placed : new ≡ shuffled 0 interleavingSeed (part later at c) = is ∙ ap (shuffled 0 interleavingSeed) lent in
-        let long : length new ≡ c = ap length placed ∙ length-shuffled 0 interleavingSeed (part later at c) ∙ length-part later at c inside in
+        let many : length (part later at c) ≡ c = length-part later at c (omega (arith, inside, here)) in
+        let long : length new ≡ c = ap length placed ∙ length-shuffled 0 interleavingSeed (part later at c) ∙ many in
         let bits : part later at c ≡ codewordFor s (netFor s before) ++ stuffing (c - s .gross) =
         ap (λ (xs : List ℕ). part xs at c) (stuffed-is stuffs) ∙ stuffed-word encoded coded .1 in
-        let same : putMid (a .word) (end - a .word) later new ≡ putMid at c later new =
-        ap₂ (λ (i j : ℕ). putMid i j later new) here (lent-width (a .word) c) in
-        subst⁻¹ (BitsPlaced s before) same (record {
-          long = length-put at c later new inside long ∙ stuffed-long stuffs;
-          bits-are = part-put at c later new inside long ∙ placed ∙ ap (shuffled 0 interleavingSeed) bits;
-        })
+        let after : List ℕ = givenBack (a .word) c later new in
+        record {
+          long = length-back (a .word) c later new inside long ∙ stuffed-long stuffs;
+          bits-are =
+              ap (λ (i : ℕ). part after i c) (sym here)
+              ∙ part-back (a .word) c later new inside long
+              ∙ placed
+              ∙ ap (shuffled 0 interleavingSeed) bits;
+        }
 
 -- ---- the matrix
 
 -- the net bits are few
 pub net-few : {s : Sizes} → CodeSizes s → s .net ≤ 4096
 net-few k = omega (arith, k .parts, k .inside, k .few)
-
--- the C bits in the buffer are as many as filling asks for
-pub bits-room : {s : Sizes} (work : List ℕ) {a : Areas} → CodeSizes s → s .work ≤ length work → a ≡ areasOf s
-    → length (part work (a .word) (a .word + s .capacity - a .word)) ≡ s .capacity
-bits-room {s} work {a} k h e =
-    ap length (part-lent work (a .word) (s .capacity)) ∙ length-part work (a .word) (s .capacity) (bits-inside k h e)
 
 -- the net bits of a message are bits
 pub message-bits : {s : Sizes} {message before after : List ℕ} → NetStored s message before after → AllBits (netFor s after)
@@ -154,7 +151,7 @@ pub matrix-stored : (p : Params) (l message : List ℕ) {s : Sizes} {a : Areas} 
 unfolding writtenMatrix
 matrix-stored p l message {s} {a} {third = third} e h n b is =
     is
-    ∙ ap₂ (λ (i j : ℕ). filled p l (part third i j)) (ap (λ (x : Areas). x .word) h) (lent-width (a .word) (s .capacity))
+    ∙ ap (filled p l) (part-lent third (a .word) (s .capacity) ∙ ap (λ (x : Areas). part third (x .word) (s .capacity)) h)
     ∙ ap (filled p l) (b .bits-are ∙ ap (placedBits s) (n .net-is))
     ∙ ap (λ (z : Sizes). filled p l (placedBits z (withEndMark (z .net) (byteStream message)))) e
 

@@ -1,7 +1,7 @@
 // The matrix of a message: what a write does once the tests 1 to 5 are passed. The net bits, the word, the
 // stuffing bits and the interleaving lie in the work buffer one after the other; the matrix is stored last.
 //
-// `jabcode::write` is the way in. It makes the tests before, and clears the work buffer behind.
+// `jabcode::write` is the way in, and makes the tests before.
 use symbology::Answer;
 use symbology::Params;
 use symbology::Sizes;
@@ -13,7 +13,7 @@ ghost use Rattle.symbology.specs.Bits.{AllBits};
 ghost use Rattle.symbology.specs.Stream.{byteStream};
 ghost use Rattle.symbology.specs.Net.{stuffing};
 ghost use Rattle.symbology.specs.Tests.{sizesFor};
-ghost use Rattle.symbology.specs.Write.{writtenMatrix, writeAnswer, matrixAfterWrite, isLegal};
+ghost use Rattle.symbology.specs.Write.{writtenMatrix, writeAnswer, matrixAfterWrite, isLegal, workAfter};
 ghost use Rattle.ldpc.specs.Work.{CodeSizes, netFor};
 ghost use Rattle.symbol_writer.specs.Writing.{NetStored, BitsPlaced};
 
@@ -70,8 +70,8 @@ fn store_matrix(
     layout::fill(p, list, &work[at..end], matrix);
 }
 
-// Test 6, and the matrix of a message that fits. A message that does not fit changes nothing.
-pub fn write_legal(
+// Test 6, and the matrix of a message that fits. The work buffer is left as it was used.
+fn write_uncleared(
     p: Params,
     list: &[u16],
     message: &[u8],
@@ -94,4 +94,22 @@ pub fn write_legal(
         number: 0,
         place: 0,
     }
+}
+
+// A write of legal input. The work buffer is cleared behind it.
+pub fn write_legal(
+    p: Params,
+    list: &[u16],
+    message: &[u8],
+    matrix: &mut [u8],
+    work: &mut [u8],
+) -> Answer
+    requires { ⌜ isLegal p (now list) (length (now matrix)) (length (now work)) ≡ true ⌝ }
+    ensures { λ r. ⌜ r ≡ writeAnswer p (now (list .entry)) (now (message .entry)) (length (now (matrix .entry))) (length (now (work .entry))) ⌝ }
+    ensures { λ _. ⌜ now (matrix .exit) ≡ matrixAfterWrite p (now (list .entry)) (now (message .entry)) (length (now (work .entry))) (now (matrix .entry)) ⌝ }
+    ensures { λ _. ⌜ now (work .exit) ≡ workAfter p (now (list .entry)) (length (now (matrix .entry))) (now (work .entry)) ⌝ }
+{
+    let answer = write_uncleared(p, list, message, matrix, work);
+    lent::clear(work, 0, work.len());
+    answer
 }

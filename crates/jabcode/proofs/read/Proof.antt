@@ -8,21 +8,18 @@ use Rattle.jabcode.proofs.read.Tie as tie
 front-tests-requires : tie.Need-front-tests-requires
 front-tests-requires c κs = search needs
 
-refusal-requires : tie.Need-refusal-requires
-refusal-requires c κs = search needs
+early-refusal-requires : tie.Need-early-refusal-requires
+early-refusal-requires c κs = search needs
 
 returns : tie.Need-returns
 returns c =
     let a = c .before .before .before .before .before .before .before .before .args in
-    read-refused (a .p) (a .list .now) (a .matrix .now) (a .work .now) (a .message .now) (c .before .before .before .front-tests .ensures) (c .before .if1 .taken) (c .refusal .ensures)
+    read-refused (a .p) (a .list .now) (a .matrix .now) (a .work .now) (a .message .now) (c .before .before .before .front-tests .ensures) (c .before .if1 .taken) (c .early-refusal .ensures)
 
 read-legal-requires : tie.Need-read-legal-requires
 read-legal-requires c κs =
     let a = c .before .before .before .before .before .before .before .before .before .args in
     is-legal (a .p) (a .list .now) (a .work .now) (length (a .matrix .now)) (c .before .before .before .before .front-tests .ensures) (c .before .before .if1 .left)
-
-clear-requires : tie.Need-clear-requires
-clear-requires c κs = search needs
 
 same-length : tie.Need-same-length
 same-length c = search needs
@@ -32,20 +29,17 @@ same-length-2 c = search needs
 
 returns-2 : tie.Need-returns-2
 returns-2 c =
-    let a = c .before .before .before .before .before .before .before .before .before .before .before .before .before .before .before .before .before .before .args in
-    read-passed (a .p) (a .list .now) (a .matrix .now) (a .work .now) (a .message .now)
-    (is-legal (a .p) (a .list .now) (a .work .now) (length (a .matrix .now)) (c .before .before .before .before .before .before .before .before .before .before .before .before .before .front-tests .ensures) (c .before .before .before .before .before .before .before .before .before .before .before .if1 .left))
-    (c .before .before .before .before .before .before .before .before .read-legal .ensures) (c .before .before .before .before .before .before .before .before .read-legal .kept .1 .1 .1 .0) (c .before .before .clear .ensures)
+    let a = c .before .before .before .before .before .before .before .before .before .before .before .before .before .before .args in
+    read-passed (a .p) (a .list .now) (a .matrix .now) (a .work .now) (a .message .now) (c .before .before .before .before .read-legal .ensures)
 
 pub read-spec : {M : Type 1} → statement M
 read-spec =
     tie.close
     (tie.spec
     front-tests-requires
-    refusal-requires
+    early-refusal-requires
     returns
     read-legal-requires
-    clear-requires
     same-length
     same-length-2
     returns-2)

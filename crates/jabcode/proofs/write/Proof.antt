@@ -1,7 +1,7 @@
 -- `jabcode::write` meets its contract. Assumes nothing.
 use lib.ListN.{length}
 use borrow.Author.Needs.{needs}
-use Rattle.jabcode.proofs.Calls.{is-legal, write-refused, write-passed}
+use Rattle.jabcode.proofs.Calls.{is-legal, write-refused}
 use Rattle.jabcode.proofs.write.Statement.{statement}
 use Rattle.jabcode.proofs.write.Tie as tie
 
@@ -18,9 +18,6 @@ write-legal-requires c κs =
     let a = c .before .before .before .before .before .before .before .before .before .args in
     is-legal (a .p) (a .list .now) (a .work .now) (length (a .matrix .now)) (c .before .before .before .before .front-tests .ensures) (c .before .before .if1 .left)
 
-clear-requires : tie.Need-clear-requires
-clear-requires c κs = search needs
-
 same-length : tie.Need-same-length
 same-length c = search needs
 
@@ -28,11 +25,7 @@ same-length-2 : tie.Need-same-length-2
 same-length-2 c = search needs
 
 returns-2 : tie.Need-returns-2
-returns-2 c =
-    let a = c .before .before .before .before .before .before .before .before .before .before .before .before .before .before .before .before .before .before .args in
-    write-passed (a .p) (a .list .now) (a .message .now) (a .matrix .now) (a .work .now)
-    (is-legal (a .p) (a .list .now) (a .work .now) (length (a .matrix .now)) (c .before .before .before .before .before .before .before .before .before .before .before .before .before .front-tests .ensures) (c .before .before .before .before .before .before .before .before .before .before .before .if1 .left))
-    (c .before .before .before .before .before .before .before .before .write-legal .ensures) (c .before .before .before .before .before .before .before .before .write-legal .kept .1 .1 .1 .1 .0) (c .before .before .clear .ensures)
+returns-2 c = search needs
 
 pub write-spec : {M : Type 1} → statement M
 write-spec =
@@ -41,7 +34,6 @@ write-spec =
     front-tests-requires
     returns
     write-legal-requires
-    clear-requires
     same-length
     same-length-2
     returns-2)

@@ -22,13 +22,13 @@ passed c =
 up-to-last-one-requires : tie.Need-up-to-last-one-requires
 up-to-last-one-requires c κs = search needs
 
-refusal-requires : tie.Need-refusal-requires
-refusal-requires c κs = search needs
+late-refusal-requires : tie.Need-late-refusal-requires
+late-refusal-requires c κs = search needs
 
 returns : tie.Need-returns
 returns c =
     let a = c .before .before .before .before .before .args in
-    all-zero (a .net .now) (a .repairs) (a .unmet) (a .message .now) (c .before .before .up-to-last-one .ensures) (c .before .if1 .taken) (c .refusal .ensures)
+    all-zero (a .net .now) (a .repairs) (a .unmet) (a .message .now) (c .before .before .up-to-last-one .ensures) (c .before .if1 .taken) (c .late-refusal .ensures)
 
 sub-mark : tie.Need-sub-mark
 sub-mark c = search needs
@@ -48,8 +48,8 @@ slice-aggregate-read-stream-2 c = search needs
 read-stream-requires : tie.Need-read-stream-requires
 read-stream-requires c κs = search needs
 
-refusal-requires-2 : tie.Need-refusal-requires-2
-refusal-requires-2 c κs = search needs
+late-refusal-requires-2 : tie.Need-late-refusal-requires-2
+late-refusal-requires-2 c κs = search needs
 
 same-length : tie.Need-same-length
 same-length c = search needs
@@ -57,10 +57,10 @@ same-length c = search needs
 returns-2 : tie.Need-returns-2
 returns-2 c =
     let a = c .before .before .before .before .before .before .before .before .before .before .before .before .args in
-    bad-code (a .net .now) (a .repairs) (a .unmet) (a .message .now) (passed (c .before .before .before)) (c .before .if2 .taken) (c .refusal2 .ensures)
+    bad-code (a .net .now) (a .repairs) (a .unmet) (a .message .now) (passed (c .before .before .before)) (c .before .if2 .taken) (c .late-refusal2 .ensures)
 
-refusal-requires-3 : tie.Need-refusal-requires-3
-refusal-requires-3 c κs = search needs
+late-refusal-requires-3 : tie.Need-late-refusal-requires-3
+late-refusal-requires-3 c κs = search needs
 
 same-length-2 : tie.Need-same-length-2
 same-length-2 c = search needs
@@ -68,7 +68,7 @@ same-length-2 c = search needs
 returns-3 : tie.Need-returns-3
 returns-3 c =
     let a = c .before .before .before .before .before .before .before .before .before .before .before .before .before .before .args in
-    no-room (a .net .now) (a .repairs) (a .unmet) (a .message .now) (passed (c .before .before .before .before .before)) (c .before .before .before .if2 .left) (c .before .if3 .taken) (c .refusal3 .ensures)
+    no-room (a .net .now) (a .repairs) (a .unmet) (a .message .now) (passed (c .before .before .before .before .before)) (c .before .before .before .if2 .left) (c .before .if3 .taken) (c .late-refusal3 .ensures)
 
 slice-aggregate-read-stream-3 : tie.Need-slice-aggregate-read-stream-3
 slice-aggregate-read-stream-3 c =
@@ -92,17 +92,17 @@ read-net-spec =
     tie.close
     (tie.spec
     up-to-last-one-requires
-    refusal-requires
+    late-refusal-requires
     returns
     sub-mark
     slice-aggregate-read-stream
     slice-relend-prefix-read-stream
     slice-aggregate-read-stream-2
     read-stream-requires
-    refusal-requires-2
+    late-refusal-requires-2
     same-length
     returns-2
-    refusal-requires-3
+    late-refusal-requires-3
     same-length-2
     returns-3
     slice-aggregate-read-stream-3

@@ -15,8 +15,8 @@ use Rattle.symbol_reader.proofs.from_accepted.Tie as tie
 read-message-requires : tie.Need-read-message-requires
 read-message-requires c κs = search needs
 
-refusal-requires : tie.Need-refusal-requires
-refusal-requires c κs = search needs
+late-refusal-requires : tie.Need-late-refusal-requires
+late-refusal-requires c κs = search needs
 
 same-length : tie.Need-same-length
 same-length c = search needs
@@ -25,7 +25,7 @@ returns : tie.Need-returns
 returns c =
     let a = c .before .before .before .before .before .before .before .before .args in
     let m = c .before .before .before .before .read-message in
-    spare-one (a .s) (wordFor (a .s) (a .work .now)) (a .repairs) (a .unmet) (a .message .now) (sym (m .ensures .spare-is) ∙ c .before .if1 .taken) (c .refusal .ensures)
+    spare-one (a .s) (wordFor (a .s) (a .work .now)) (a .repairs) (a .unmet) (a .message .now) (sym (m .ensures .spare-is) ∙ c .before .if1 .taken) (c .late-refusal .ensures)
 
 areas-requires : tie.Need-areas-requires
 areas-requires c κs = search needs
@@ -73,7 +73,7 @@ from-accepted-spec =
     tie.close
     (tie.spec
     read-message-requires
-    refusal-requires
+    late-refusal-requires
     same-length
     returns
     areas-requires

@@ -7,8 +7,8 @@ use Rattle.symbol_reader.proofs.from_received.Tie as tie
 mend-requires : tie.Need-mend-requires
 mend-requires c κs = search needs
 
-refusal-requires : tie.Need-refusal-requires
-refusal-requires c κs = search needs
+late-refusal-requires : tie.Need-late-refusal-requires
+late-refusal-requires c κs = search needs
 
 same-length : tie.Need-same-length
 same-length c = search needs
@@ -16,7 +16,7 @@ same-length c = search needs
 returns : tie.Need-returns
 returns c =
     let a = c .before .before .before .before .before .before .before .before .args in
-    stuck-word (c .before .before .before .before .mend .ensures) (a .message .now) (c .before .if1 .taken) (c .refusal .ensures)
+    stuck-word (c .before .before .before .before .mend .ensures) (a .message .now) (c .before .if1 .taken) (c .late-refusal .ensures)
 
 from-accepted-requires : tie.Need-from-accepted-requires
 from-accepted-requires c κs = search needs
@@ -38,7 +38,7 @@ from-received-spec =
     tie.close
     (tie.spec
     mend-requires
-    refusal-requires
+    late-refusal-requires
     same-length
     returns
     from-accepted-requires

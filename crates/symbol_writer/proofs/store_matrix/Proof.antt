@@ -5,8 +5,9 @@ use lib.ListN.{length}
 use borrow.Author.Needs.{needs}
 use Rattle.symbology.specs.declared.Sizes.{Sizes}
 use Rattle.layout.proofs.Legal.{legal-symbol}
+use Rattle.lent.proofs.Buffer.{length-lent}
 use Rattle.ldpc.proofs.Work.{legal-sizes, bits-inside}
-use Rattle.symbol_writer.proofs.Writing.{bits-room, message-bits, matrix-stored}
+use Rattle.symbol_writer.proofs.Writing.{message-bits, matrix-stored}
 use Rattle.symbol_writer.proofs.store_matrix.Statement.{statement}
 use Rattle.symbol_writer.proofs.store_matrix.Tie as tie
 
@@ -52,7 +53,7 @@ fill-requires c κs =
     let k = legal-sizes (s .args .p) (s .args .list .now) (length (s .args .matrix .now)) (length (s .args .work .now)) (s .pre .0) (s .pre .1) in
     let placed = c .before .before .before .before .before .before .before .place-bits .last .0 in
     legal-symbol (s .args .p) (s .args .list .now) (length (s .args .matrix .now)) (length (s .args .work .now)) (s .pre .0)
-    (bits-room placed (k .0) (omega (arith, k .1, c .before .before .before .before .before .before .before .before .before .before .before .store-net .ensures .long, c .before .before .before .before .before .before .before .place-bits .ensures .long)) (c .before .before .before .before .areas .ensures) ∙ ap (λ (z : Sizes). z .capacity) (s .pre .1))
+    (length-lent placed (c .before .before .before .before .areas .result .word) (s .args .s .capacity) (bits-inside (k .0) (omega (arith, k .1, c .before .before .before .before .before .before .before .before .before .before .before .store-net .ensures .long, c .before .before .before .before .before .before .before .place-bits .ensures .long)) (c .before .before .before .before .areas .ensures)) ∙ ap (λ (z : Sizes). z .capacity) (s .pre .1))
 
 same-length : tie.Need-same-length
 same-length c = search needs

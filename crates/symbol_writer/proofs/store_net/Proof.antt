@@ -1,8 +1,9 @@
 -- `symbol_writer::store_net` meets its contract. Assumes nothing.
 use native.Mathlib.Omega.{arith}
 use borrow.Author.Needs.{needs}
+use Rattle.lent.proofs.Buffer.{length-lent}
 use Rattle.ldpc.proofs.Work.{net-inside}
-use Rattle.symbol_writer.proofs.Writing.{net-room, net-stored}
+use Rattle.symbol_writer.proofs.Writing.{net-stored}
 use Rattle.symbol_writer.proofs.store_net.Statement.{statement}
 use Rattle.symbol_writer.proofs.store_net.Tie as tie
 
@@ -28,7 +29,7 @@ part-write-net-end c =
 write-net-requires : tie.Need-write-net-requires
 write-net-requires c κs =
     let s = c .before .before .before .before .before in
-    omega (arith, s .pre .2, net-room (s .args .work .now) (s .pre .0) (s .pre .1) (c .before .before .areas .ensures))
+    omega (arith, s .pre .2, length-lent (s .args .work .now) (c .before .before .areas .result .message) (s .args .s .net) (net-inside (s .pre .0) (s .pre .1) (c .before .before .areas .ensures)))
 
 same-length : tie.Need-same-length
 same-length c = search needs

@@ -1,32 +1,15 @@
 -- `symbol_writer::write_legal` meets its contract. Assumes nothing.
-use native.Mathlib.Omega.{arith}
 use lib.ListN.{length}
 use borrow.Author.Needs.{needs}
-use Rattle.laws.proofs.Tests.{legal}
-use Rattle.ldpc.proofs.Work.{legal-sizes}
-use Rattle.symbol_writer.proofs.Writing.{net-few, no-room, fits, room-enough}
+use Rattle.lent.proofs.Work.{all-cleared}
 use Rattle.symbol_writer.proofs.write_legal.Statement.{statement}
 use Rattle.symbol_writer.proofs.write_legal.Tie as tie
 
-sizes-of-requires : tie.Need-sizes-of-requires
-sizes-of-requires c κs =
-    let s = c .before .before .before .before in
-    legal (s .args .p) (s .args .list .now) (length (s .args .matrix .now)) (length (s .args .work .now)) (s .pre) .in-range
+write-uncleared-requires : tie.Need-write-uncleared-requires
+write-uncleared-requires c κs = search needs
 
-exceeds-net-requires : tie.Need-exceeds-net-requires
-exceeds-net-requires c κs =
-    let s = c .before .before .before .before .before in
-    omega (arith, net-few (legal-sizes (s .args .p) (s .args .list .now) (length (s .args .matrix .now)) (length (s .args .work .now)) (s .pre) (c .sizes-of .ensures) .0))
-
-returns : tie.Need-returns
-returns c =
-    let s = c .before .before .before .before .before .before .before in
-    no-room (s .args .p) (s .args .list .now) (s .args .message .now) (s .args .matrix .now) (length (s .args .work .now)) (s .pre) (c .before .before .sizes-of .ensures) (c .before .exceeds-net .ensures) (c .if1 .taken)
-
-store-matrix-requires : tie.Need-store-matrix-requires
-store-matrix-requires c κs =
-    let s = c .before .before .before .before .before .before .before .before .before in
-    (s .pre, c .before .before .before .before .sizes-of .ensures, fits (s .args .p) (s .args .list .now) (s .args .message .now) (s .args .matrix .now) (length (s .args .work .now)) (s .pre) (c .before .before .before .before .sizes-of .ensures) (c .before .before .before .exceeds-net .ensures) (c .before .before .if1 .left))
+clear-requires : tie.Need-clear-requires
+clear-requires c κs = search needs
 
 same-length : tie.Need-same-length
 same-length c = search needs
@@ -34,19 +17,12 @@ same-length c = search needs
 same-length-2 : tie.Need-same-length-2
 same-length-2 c = search needs
 
-returns-2 : tie.Need-returns-2
-returns-2 c =
-    let s = c .before .before .before .before .before .before .before .before .before .before .before .before .before .before in
-    room-enough (s .args .p) (s .args .list .now) (s .args .message .now) (s .args .matrix .now) (length (s .args .work .now)) (s .pre) (c .before .before .before .before .before .before .before .before .before .sizes-of .ensures) (c .before .before .before .before .before .before .before .before .exceeds-net .ensures) (c .before .before .before .before .before .before .before .if1 .left) (c .before .before .before .before .store-matrix .ensures)
+returns : tie.Need-returns
+returns c =
+    let s = c .before .before .before .before .before .before .before .before .before .before .before .before .before .before .before in
+    let w = c .before .before .before .before .before .before .before .before .write-uncleared in
+    (w .ensures .0, (w .ensures .1, all-cleared (s .args .p) (s .args .list .now) (s .args .work .now) (length (s .args .matrix .now)) (s .pre) (w .kept .1 .1 .1 .1 .0) (c .before .before .clear .ensures)))
 
 pub write-legal-spec : {M : Type 1} → statement M
 write-legal-spec =
-    tie.close
-    (tie.spec
-    sizes-of-requires
-    exceeds-net-requires
-    returns
-    store-matrix-requires
-    same-length
-    same-length-2
-    returns-2)
+    tie.close (tie.spec write-uncleared-requires clear-requires same-length same-length-2 returns)
