@@ -1,5 +1,5 @@
-/* Labels through the C interface: written, read back, damaged and refused. What is expected follows from document 01, but for one
- * thing, which is said where it stands. Exits with 1 at the first answer that differs. Symbols keep to document 01's limits for
+/* Labels through the C interface: written, read back, damaged and refused. What is expected follows from document 01, or was
+ * computed from it by another program. Exits with 1 at the first answer that differs. Symbols keep to document 01's limits for
  * programs: C at most 1,047, wc 3, wr 9, at most 53,964 work bytes. */
 #include "jabcode.h"
 #include <stdio.h>
@@ -127,9 +127,9 @@ static void round_trips(void) {
 
 /* The 1,047 bits of a label, turned one at a time. Three of them are stuffing bits: 8. Each other bit stands in wc = 3 checks, so 3
  * are unmet at first, and the bit itself is suspect. Each repair lowers their number, and one that leaves none unmet turns a bit
- * whose three checks were all unmet: so a word that is mended has 1 repair, and one that is stuck 1 or 2. The lowest bit of all is
- * mended. That the bit turned is the damaged one, and so the message the right one, is a property of this A, no two of whose columns
- * stand in the same three checks; document 01 does not say it. */
+ * whose three checks were all unmet: so a word that is mended has 1 repair, and one that is stuck 1 or 2. No two columns of this A
+ * stand in the same three checks, so the bit that is turned and leaves none unmet is the damaged one, and the message the right one.
+ * That, and that 949 of the 1,044 are mended, was computed by another program from document 01 and 002's Annex E and 4.4.3. */
 static void one_bit_turned(void) {
     uint8_t bytes[80], clean[MODULES];
     uint32_t answer[5];
@@ -166,7 +166,7 @@ static void one_bit_turned(void) {
         }
     }
     printf("c_interface: one bit turned: %u mended, %u stuck, %u stuffing\n", mended, stuck, stuffing);
-    must("3 stuffing bits and 1,044 others, some mended", stuffing == 3 && mended + stuck == 1044 && mended > 0);
+    must("949 mended, 95 stuck, 3 stuffing", mended == 949 && stuck == 95 && stuffing == 3);
 }
 
 /* Labels with up to 40 modules of another colour: whatever is answered, there are no more repairs than checks unmet at first, of 348
