@@ -9,7 +9,7 @@
 enum { SIDE = 21, MODULES = SIDE * SIDE, MOST_WORK = 53964, ROOM = 120, FILL = 0xA5 };
 
 /* the buffers, with some bytes behind what is lent of them */
-static uint8_t matrix[MODULES], work[MOST_WORK + 100], message[ROOM];
+static uint8_t matrix[MODULES + 20], work[MOST_WORK + 100], message[ROOM + 20];
 static uint16_t list[3 * 64];
 
 /* document 01's points P3 and P6: primary, version 1, 8 colours, wc 3, wr 9, with 24 entries: C 1,047 and 696 net bits */
@@ -41,7 +41,7 @@ static int all(const uint8_t *bytes, size_t n, uint8_t b) {
     return 1;
 }
 
-/* n entries of one colour from row 8 on, which the finder patterns of version 1 (rows 2 to 6 and 16 to 20) leave free */
+/* n entries of one colour from row 8 on; the patterns of version 1 lie in rows 2 to 6 and 16 to 20 */
 static void reserve(size_t n, uint16_t colour) {
     for (size_t i = 0; i < n; i++) {
         list[3 * i] = 1 + i % SIDE;
@@ -69,7 +69,9 @@ static size_t work_bytes(const uint32_t *params, size_t entries) {
 static void write_label(const uint32_t *params, size_t entries, const uint8_t *bytes, size_t n, uint32_t *answer) {
     size_t need = work_bytes(params, entries);
     memset(work, FILL, sizeof work);
+    memset(matrix + MODULES, FILL, sizeof matrix - MODULES);
     jab_write(params, list, 3 * entries, bytes, n, matrix, MODULES, work, need, answer);
+    must("the bytes behind the matrix", all(matrix + MODULES, sizeof matrix - MODULES, FILL));
     must("the work buffer after a write", all(work, need, 0) && all(work + need, sizeof work - need, FILL));
 }
 
@@ -143,7 +145,7 @@ static void one_bit_turned(void) {
         for (uint8_t bit = 1; bit < 8; bit <<= 1) {
             memcpy(matrix, clean, MODULES);
             matrix[i] ^= bit;
-            read_label(small, 24, sizeof message, answer);
+            read_label(small, 24, ROOM, answer);
             uint32_t repairs = answer[3];
             if (answer[0] == 8) {
                 expect("a stuffing bit turned", answer, (uint32_t[]){8, 0, 0, 0, 0}, 5);
@@ -186,7 +188,7 @@ static void many_modules_turned(void) {
             random = random * 1664525u + 1013904223u;
             matrix[(random >> 8) % MODULES] ^= 1 + (random >> 24) % 7;
         }
-        read_label(small, 24, sizeof message, answer);
+        read_label(small, 24, ROOM, answer);
         must("0, or 8 to 14", answer[0] == 0 || (answer[0] >= 8 && answer[0] <= 14));
         must("a place", answer[1] == 0);
         must("no more repairs than unmet checks", answer[3] <= answer[4] && answer[4] <= 348);
@@ -210,7 +212,7 @@ static void refused_early(const char *what, const uint32_t *params, size_t numbe
     memset(message, FILL, sizeof message);
     jab_write(params, list, numbers, bytes, sizeof bytes, matrix, modules, work, room, answer);
     expect(what, answer, (uint32_t[]){number, place}, 2);
-    jab_read(params, list, numbers, matrix, modules, work, room, message, sizeof message, answer);
+    jab_read(params, list, numbers, matrix, modules, work, room, message, ROOM, answer);
     expect(what, answer, (uint32_t[]){number, place, 0, 0, 0}, 5);
     must(what, all(work, sizeof work, FILL) && all(matrix, sizeof matrix, FILL) && all(message, sizeof message, FILL));
 }
@@ -256,7 +258,7 @@ static void late_refusals(void) {
 
     matrix[300] = 8;
     matrix[400] = 255;
-    read_label(small, 24, sizeof message, answer);
+    read_label(small, 24, ROOM, answer);
     expect("a module of 8", answer, (uint32_t[]){7, 300, 0, 0, 0}, 5);
 }
 

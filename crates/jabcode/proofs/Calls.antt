@@ -1,6 +1,6 @@
 -- The calls, put together: where the tests 1 to 5 refuse, and where they pass.
 -- Assumes nothing.
-use Prim.Native.Nat.{ℕ, _-_}
+use Prim.Native.Nat.{ℕ}
 use mathlib.Core.Path.{_≡_, sym, ap, _∙_, subst⁻¹}
 use mathlib.Core.Bool.{true}
 use mathlib.Core.List.{List, [], _∷_}
@@ -39,6 +39,7 @@ module _ (p : Params) (l work : List ℕ) (modules : ℕ) {a : Answer} (told : a
 -- ---- write
 
 module _ (p : Params) (l message matrix work : List ℕ) {a : Answer} where
+  -- one of the tests 1 to 5 holds
   pub write-refused : a ≡ firstOf (frontTests answer p l (length matrix) (length work)) (answer 0 0)
       → (a .number ≡ 0 → ⊥)
       → Writes p l message matrix work a matrix work
@@ -66,6 +67,7 @@ mending p l matrix work message {a} e m reaching =
     (mends p l matrix message (length work) reaching))
 
 module _ (p : Params) (l matrix work message : List ℕ) {r : ReadAnswer} where
+  -- one of the tests 1 to 5 holds
   pub read-refused : {a : Answer}
       → a ≡ firstOf (frontTests answer p l (length matrix) (length work)) (answer 0 0)
       → (a .number ≡ 0 → ⊥)
@@ -79,6 +81,7 @@ module _ (p : Params) (l matrix work message : List ℕ) {r : ReadAnswer} where
       sym (refused-read r (messageIn p l matrix) message (λ z. some (sym (ap (λ (b : ReadAnswer). b .number) is) ∙ z))) in
       (same, (kept, (untouched p l work (length matrix) told some, mending p l matrix work message same kept)))
 
+  -- none does
   pub read-passed : {work′ message′ : List ℕ}
       → (r ≡ readAnswer p l matrix (length work) (length message))
       × ((message′ ≡ messageAfter r (messageIn p l matrix) message) × (work′ ≡ workAfter p l (length matrix) work))

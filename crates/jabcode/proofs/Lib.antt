@@ -1,2 +1,3 @@
+-- Lemmas of the code: the calls put together, and a write read back.
 mod Calls
 mod RoundTrip

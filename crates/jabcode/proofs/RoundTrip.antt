@@ -18,13 +18,13 @@ use Rattle.symbology.specs.Write.{writeAnswer, matrixAfterWrite, isLegal, workA
 use Rattle.symbology.specs.Read.{refused, readAnswer, messageIn, messageAfter}
 use Rattle.laws.proofs.Ranges.{by}
 use Rattle.laws.proofs.Tests.{legal}
-use Rattle.laws.proofs.Answers.{refused-read, work-cleared, work-untouched}
+use Rattle.laws.proofs.Answers.{read-answer, refused-read, work-cleared, work-untouched}
 use Rattle.laws.proofs.RoundTrip.{writes-and-reads, length-write}
 use Rattle.jabcode.specs.RoundTrip.{answerReadBack, ReadsBack}
 use Rattle.jabcode.specs.Calls.{Writes, Reads}
 
 -- what the call gave and left is what its contract says
-abbrev pub WritesThenReads : Params → List ℕ → List ℕ → List ℕ → List ℕ → List ℕ → ReadAnswer → List ℕ → List ℕ → List ℕ → Type 0
+abbrev WritesThenReads : Params → List ℕ → List ℕ → List ℕ → List ℕ → List ℕ → ReadAnswer → List ℕ → List ℕ → List ℕ → Type 0
 WritesThenReads p l message matrix work back a matrix′ work′ back′ =
     (a ≡ answerReadBack p l message matrix (length work) (length back))
     × ((matrix′ ≡ matrixAfterWrite p l message (length work) matrix)
@@ -108,12 +108,14 @@ module _ (p : Params) (l message matrix work back : List ℕ) {a : Answer} {matr
               cleared,
               λ e.
                   let law = writes-and-reads p l message matrix (length work) e in
+                  let never-6 : r .number ≡ 6 → ⊥ =
+                  λ six. read-answer p l after (length work) (length back) .number-not-6 (ap (λ (b : ReadAnswer). b .number) (sym same) ∙ six) in
                   let enough : sizesFor p l .work ≤ length work = legal p l (length matrix) (length work) e .enough in
                   record {
                     denied = λ h.
                         let six : defined .number ≡ 6 = ap (λ (b : Answer). b .number) (law .denied h .0) in
                         absurd (omega (arith, six, number));
-                    is-written = λ h. w .1 .0 ∙ law .written h .1;
+                    is-written = λ h. (never-6, w .1 .0 ∙ law .written h .1);
                     comes-back = λ h g.
                         let found = law .read-back (length work) back bytes h enough g in (
                           same ∙ found .0,

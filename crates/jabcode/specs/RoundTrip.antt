@@ -22,10 +22,10 @@ answerReadBack p l message matrix work room =
 
 -- Demand 2 about a call with legal parameters, list and buffers: `matrix` and `back` came, and `written` and `after` are what it left.
 pub record ReadsBack (p : Params) (l message matrix back : List ℕ) (a : ReadAnswer) (written after : List ℕ) : Type 0 where
-  -- room is denied exactly when the stream and its end mark exceed the net bits
+  -- room is denied where the stream and its end mark exceed the net bits
   pub denied : sizesFor p l .net < suc (length (byteStream message)) → (a ≡ refused 6 0) × (written ≡ matrix) × (after ≡ back)
-  -- otherwise the matrix is the defined one
-  pub is-written : suc (length (byteStream message)) ≤ sizesFor p l .net → written ≡ writtenMatrix p l message
+  -- and only there: otherwise the matrix is the defined one
+  pub is-written : suc (length (byteStream message)) ≤ sizesFor p l .net → (a .number ≡ 6 → ⊥) × (written ≡ writtenMatrix p l message)
   -- and the message comes back, with no repair and no unmet check, where its buffer is long enough
   pub comes-back : suc (length (byteStream message)) ≤ sizesFor p l .net
       → length message ≤ length back

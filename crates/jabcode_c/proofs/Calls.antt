@@ -12,6 +12,7 @@ use Rattle.jabcode.specs.Calls.{Writes, Reads}
 use Rattle.jabcode_c.specs.Words.{paramsOf, wordOf, sizesWords}
 use Rattle.jabcode_c.specs.Calls.{WritesFor, ReadsFor}
 
+-- the seven words of `sizes`
 pub sizes-for : (w l : List ℕ) {p : Params} {a : SizesAnswer} {place columns rows capacity net work : ℕ}
     → p ≡ paramsOf w
     → a ≡ sizesAnswer p l
@@ -25,6 +26,7 @@ pub sizes-for : (w l : List ℕ) {p : Params} {a : SizesAnswer} {place columns r
 sizes-for w l e is h1 h2 h3 h4 h5 h6 =
     rw (h1, h2, h3, h4, h5, h6) (ap sizesWords is ∙ ap (λ (q : Params). sizesWords (sizesAnswer q l)) e)
 
+-- the two of a write
 pub writes-for : (w l message matrix work : List ℕ) {p : Params} {a : Answer} {matrix′ work′ : List ℕ} {place : ℕ}
     → p ≡ paramsOf w
     → Writes p l message matrix work a matrix′ work′
@@ -33,6 +35,7 @@ pub writes-for : (w l message matrix work : List ℕ) {p : Params} {a : Answer} 
 writes-for w l message matrix work {a = a} {matrix′} {work′} e is h =
     (a, ap (λ (n : ℕ). a .number ∷ n ∷ []) h, subst (λ (q : Params). Writes q l message matrix work a matrix′ work′) e is)
 
+-- the five of a read
 pub reads-for : (w l matrix work message : List ℕ) {p : Params} {a : ReadAnswer} {work′ message′ : List ℕ} {place long repairs unmet : ℕ}
     → p ≡ paramsOf w
     → Reads p l matrix work message a work′ message′

@@ -35,7 +35,7 @@ word-same : (n : ℕ) → n < 4294967296 → wordOf n ≡ n
 word-same n h = rw (lt-ltb n 4294967296 h) refl
 
 -- The place is given as it is, with 2 where the list is short enough.
-abbrev pub PlaceSame : List ℕ → ℕ → ℕ → Type 0
+abbrev PlaceSame : List ℕ → ℕ → ℕ → Type 0
 PlaceSame l number place = (number ≡ 2 → length l < 12884901888) → wordOf place ≡ place
 
 -- the place of the list's fault is at most its number of entries

@@ -157,7 +157,7 @@ message-few p l matrix =
     let net : List ℕ = take (s .net) m in
     omega (arith, decode-few (streamIn net), length-take (upToLastOne net - 1) net, length-take (s .net) m)
 
--- What the answers 0 to 6 have, 2 at the place of the list's fault, every answer of a write has.
+-- What the answers 0 to 6 with the place 0 have, and 2 at the place of the list's fault, every answer of a write has.
 pub write-each : (Q : Answer → Type 0) (p : Params) (l message : List ℕ) (modules work : ℕ)
     → ((n : ℕ) → n ≤ 6 → Q (answer n 0))
     → Q (answer 2 (listPlace (listVerdict p l)))
@@ -193,6 +193,16 @@ refused-write p l message matrix work differs = rw (ne-eqb (writeAnswer p l mess
 pub refused-read : (a : ReadAnswer) (message before : List ℕ) → (a .number ≡ 0 → ⊥) → messageAfter a message before ≡ before
 unfolding messageAfter
 refused-read a message before differs = rw (ne-eqb (a .number) 0 differs) refl
+
+-- what the contract of a read's stage says: its answer and the message buffer at exit are the defined ones
+abbrev pub Answered : ReadAnswer → List ℕ → List ℕ → ReadAnswer → List ℕ → Type 0
+Answered defined message before a after = (a ≡ defined) × (after ≡ messageAfter a message before)
+
+-- a refusal that is the defined answer, and a buffer as it came
+pub refusal-answered : (k : ReadAnswer) (message before : List ℕ) {defined a : ReadAnswer} {after : List ℕ}
+    → (k .number ≡ 0 → ⊥) → a ≡ k → after ≡ before → defined ≡ k → Answered defined message before a after
+refusal-answered k message before {a = a} some e kept same =
+    (e ∙ sym same, kept ∙ sym (refused-read a message before (λ z. some (sym (ap (λ (x : ReadAnswer). x .number) e) ∙ z))))
 
 -- A read that is done changes as many bytes as its answer's length says, the first ones; the others are as they came.
 pub done-read : (p : Params) (l matrix before : List ℕ) (work : ℕ)

@@ -167,8 +167,12 @@ pub stuffing-at : (n i : ℕ) → i < n → getD (stuffing n) i 0 ≡ i % 2
 unfolding stuffing
 stuffing-at n i h = getD-tabulate n (λ k. k % 2) 0 i h
 
+-- the first i elements are stuffing bits
+abbrev pub StuffedTo : List ℕ → ℕ → Type 0
+StuffedTo xs i = (j : ℕ) → j < i → getD xs j 0 ≡ j % 2
+
 -- 0, 1, 0, .. are stuffing bits
-pub stuffing-is : (xs : List ℕ) → ((i : ℕ) → i < length xs → getD xs i 0 ≡ i % 2) → xs ≡ stuffing (length xs)
+pub stuffing-is : (xs : List ℕ) → StuffedTo xs (length xs) → xs ≡ stuffing (length xs)
 stuffing-is xs each =
     ext-getD 0 xs (stuffing (length xs)) (sym (length-stuffing (length xs))) (λ i h. each i h ∙ sym (stuffing-at (length xs) i h))
 

@@ -42,10 +42,10 @@ from-net n message repairs unmet room bytes fits =
     rw (net-some n stream, back, le-ltb room (length message) fits)
 
 -- a stream's number that is not 0 is one of 10 to 14, which is all that is used of it
-refusing : (n : ℕ) → (n ≡ 0) ⊎ (n ≡ 12) ⊎ (n ≡ 13) → not (eqb n 0) ≡ true → (10 ≤ n) × (n ≤ 14)
-refusing n (inl e) t = absurd (eqb-false n 0 (not-true (eqb n 0) t) e)
-refusing n (inr (inl e)) t = (omega arith, omega arith)
-refusing n (inr (inr e)) t = (omega arith, omega arith)
+late-number : (n : ℕ) → (n ≡ 0) ⊎ (n ≡ 12) ⊎ (n ≡ 13) → not (eqb n 0) ≡ true → (10 ≤ n) × (n ≤ 14)
+late-number n (inl e) t = absurd (eqb-false n 0 (not-true (eqb n 0) t) e)
+late-number n (inr (inl e)) t = (omega arith, omega arith)
+late-number n (inr (inr e)) t = (omega arith, omega arith)
 
 -- what the answers 11 to 14 have, and 0 where the bytes fit, the answer has
 pub net-keeps : (Q : ReadAnswer → Type 0) (net : List ℕ) (n first room : ℕ)
@@ -60,7 +60,7 @@ net-keeps Q net n first room late last =
     let row12 : Row ReadAnswer = on (not (eqb (d .number) 0)) (counted (d .number) n first) in
     let row14 : Row ReadAnswer = on (ltb room (length (d .bytes))) (counted 14 n first) in
     let end : ReadAnswer = done (length (d .bytes)) n first in
-    let in-code : row12 .test ≡ true → (10 ≤ d .number) × (d .number ≤ 14) = refusing (d .number) (decode-number (streamIn net)) in
+    let in-code : row12 .test ≡ true → (10 ≤ d .number) × (d .number ≤ 14) = late-number (d .number) (decode-number (streamIn net)) in
     first-keeps Q row11 (row12 ∷ row14 ∷ []) end (λ t. late 11 (omega arith) (omega arith))
     (λ t11. first-keeps Q row12 (row14 ∷ []) end (λ t. late (d .number) (in-code t .0) (in-code t .1))
     (λ t12. only-row Q row14 end (λ t. late 14 (omega arith) (omega arith)) (λ t. last (ltb-false room (length (d .bytes)) t))))
@@ -183,10 +183,10 @@ from-matrix p l matrix w room good received long =
     rw (good, le-ltb (length matrix) (length matrix) (omega arith), front, behind, same-self end)
 
 -- the rows of the tests 7 and 8
-abbrev row7 : Params → List ℕ → Row ReadAnswer
+abbrev pub row7 : Params → List ℕ → Row ReadAnswer
 row7 p matrix = on (ltb (firstBadModule (p .colours) matrix) (length matrix)) (refused 7 (firstBadModule (p .colours) matrix))
 
-abbrev row8 : Params → List ℕ → List ℕ → Row ReadAnswer
+abbrev pub row8 : Params → List ℕ → List ℕ → Row ReadAnswer
 row8 p l matrix = on (wrongStuffing (sizesFor p l) (receivedBits p l matrix)) (refused 8 0)
 
 abbrev matrixRows : Params → List ℕ → List ℕ → List (Row ReadAnswer)
@@ -205,8 +205,8 @@ pub read-tests : (p : Params) (l matrix : List ℕ) (work room : ℕ)
 unfolding readAnswer answerFromMatrix receivedWord
 read-tests p l matrix work room = sym (early-parts p l matrix work (answerFromReceived (sizesFor p l) (receivedWord p l matrix) room))
 
--- What the answers 1 to 8 have, 2 at the place of the list's fault and 7 at that of the first bad module, and the one behind them, the
--- answer has. 7 and the one behind are asked of legal input only.
+-- What the answers 1 to 8 with the place 0 have, 2 at the place of the list's fault, 7 at that of the first bad module, and the one
+-- behind them, the answer has. 7 there and the one behind are asked of legal input only.
 early-each : (Q : ReadAnswer → Type 0) (p : Params) (l matrix : List ℕ) (work : ℕ) (d : ReadAnswer)
     → let bad = firstBadModule (p .colours) matrix in
     ((k : ℕ) → 1 ≤ k → k ≤ 8 → (k ≡ 6 → ⊥) → Q (refused k 0))

@@ -13,6 +13,7 @@ use Rattle.symbology.specs.Write.{isLegal}
 use Rattle.laws.proofs.Tests.{Legal, legal}
 use Rattle.layout.specs.Walk.{SizedSymbol}
 
+-- the symbol is sound, and matrix and bits have its size
 pub legal-symbol : (p : Params) (l : List ℕ) (modules room : ℕ) {bits : ℕ} → isLegal p l modules room ≡ true → bits ≡ sizesFor p l .capacity
     → SizedSymbol p l bits modules
 unfolding sizesOf

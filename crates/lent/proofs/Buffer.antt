@@ -1,4 +1,5 @@
--- Parts of a buffer, numbers of two bytes stored and read, and places that stay as they were.
+-- Parts of a buffer, as lists and as code lends them and gets them back; numbers of two bytes stored and read; places that stay as they
+-- were, and places that are cleared.
 -- Assumes nothing.
 use Prim.Native.Nat.{ℕ, _+_, _-_, _*_, _/_, _%_, _≤_, _<_}
 use mathlib.Core.Path.{_≡_, refl, sym, ap, ap₂, _∙_}
@@ -39,7 +40,7 @@ part-same xs ys at n h g same =
     (λ i l. same (at + i) (omega arith) (omega arith) ∙ sym (part-at xs at n i l))
 
 -- the width of a part that code lends from one place up to another
-pub lent-width : (at n : ℕ) → at + n - at ≡ n
+lent-width : (at n : ℕ) → at + n - at ≡ n
 lent-width at n = omega arith
 
 -- such a part, and its length
@@ -50,11 +51,11 @@ pub length-lent : (xs : List ℕ) (at n : ℕ) → at + n ≤ length xs → leng
 length-lent xs at n room = ap length (part-lent xs at n) ∙ length-part xs at n room
 
 -- a part of a part, from its first place on
-pub part-front : (xs : List ℕ) (at n k : ℕ) → k ≤ n → take k (part xs at n) ≡ part xs at k
+part-front : (xs : List ℕ) (at n k : ℕ) → k ≤ n → take k (part xs at n) ≡ part xs at k
 part-front xs at n k h = take-take k n (drop at xs) h
 
 -- what lies behind the first k places of a part
-pub part-behind : (xs : List ℕ) (at n k : ℕ) → k ≤ n → at + n ≤ length xs → drop k (part xs at n) ≡ part xs (at + k) (n - k)
+part-behind : (xs : List ℕ) (at n k : ℕ) → k ≤ n → at + n ≤ length xs → drop k (part xs at n) ≡ part xs (at + k) (n - k)
 part-behind xs at n k h room =
     sym (part-is xs (at + k) (n - k) (drop k (part xs at n)) (omega arith)
     (length-drop k (part xs at n) ∙ ap (λ (m : ℕ). m - k) (length-part xs at n room))

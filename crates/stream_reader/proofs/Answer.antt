@@ -17,7 +17,7 @@ use Rattle.symbology.specs.Tests.{firstOf}
 use Rattle.symbology.specs.Read.{counted, done, answerFromNet, messageAfter}
 use Rattle.laws.proofs.Ranges.{by}
 use Rattle.laws.proofs.Net.{upTo-none, none-upTo}
-use Rattle.laws.proofs.Answers.{refused-read}
+use Rattle.laws.proofs.Answers.{Answered, refusal-answered}
 use Rattle.stream_reader.specs.declared.StreamAnswer.{StreamAnswer}
 use Rattle.stream_reader.specs.Reading.{StreamRead}
 
@@ -41,20 +41,17 @@ unfolding streamIn
 stream-is net e = rw e
 
 module _ (net : List ℕ) (repairs unmet : ℕ) (before : List ℕ) where
-  -- what the contract says: answer and buffer are the defined ones
-  abbrev pub Answered : ReadAnswer → List ℕ → Type 0
-  Answered a after =
-      (a ≡ answerFromNet net repairs unmet (length before)) × (after ≡ messageAfter a (decode (streamIn net) .bytes) before)
+  abbrev FromNet : ReadAnswer → List ℕ → Type 0
+  FromNet a after = Answered (answerFromNet net repairs unmet (length before)) (decode (streamIn net) .bytes) before a after
 
   -- a refusal leaves the buffer
-  refused : {a : ReadAnswer} {after : List ℕ} {k : ℕ} → a ≡ counted k repairs unmet → (k ≡ 0 → ⊥) → after ≡ before
-      → answerFromNet net repairs unmet (length before) ≡ counted k repairs unmet → Answered a after
-  refused {a} e h kept same =
-      (e ∙ sym same, kept ∙ sym (refused-read a (decode (streamIn net) .bytes) before (λ z. h (sym (ap (λ (x : ReadAnswer). x .number) e) ∙ z))))
+  refusing : {a : ReadAnswer} {after : List ℕ} {k : ℕ} → a ≡ counted k repairs unmet → (k ≡ 0 → ⊥) → after ≡ before
+      → answerFromNet net repairs unmet (length before) ≡ counted k repairs unmet → FromNet a after
+  refusing {k = k} e some kept same = refusal-answered (counted k repairs unmet) (decode (streamIn net) .bytes) before some e kept same
 
-  pub all-zero : {a : ReadAnswer} {end : ℕ} → end ≡ upToLastOne net → end ≡ 0 → a ≡ counted 11 repairs unmet → Answered a before
+  pub all-zero : {a : ReadAnswer} {end : ℕ} → end ≡ upToLastOne net → end ≡ 0 → a ≡ counted 11 repairs unmet → FromNet a before
   unfolding answerFromNet firstOf
-  all-zero is none e = refused e (λ z. omega arith) refl (rw (upTo-none net (sym is ∙ none)))
+  all-zero is none e = refusing e (λ z. omega arith) refl (rw (upTo-none net (sym is ∙ none)))
 
   module _ {end : ℕ} {last : List ℕ} {r : StreamAnswer} (c : Counted net end last r) where
     marked : anyOne net ≡ true
@@ -69,19 +66,19 @@ module _ (net : List ℕ) (repairs unmet : ℕ) (before : List ℕ) where
     count-is : r .count ≡ length (decode (streamIn net) .bytes)
     count-is = c .first .count-is ∙ ap (λ (s : List ℕ). length (decode s .bytes)) (stream-is net (c .end-is))
 
-    pub bad-code : {a : ReadAnswer} → (r .number ≡ 0 → ⊥) → a ≡ counted (r .number) repairs unmet → Answered a (last ++ before)
+    pub bad-code : {a : ReadAnswer} → (r .number ≡ 0 → ⊥) → a ≡ counted (r .number) repairs unmet → FromNet a (last ++ before)
     unfolding answerFromNet firstOf
-    bad-code h e = refused e h kept (rw (marked, sym number-is, ne-eqb (r .number) 0 h))
+    bad-code h e = refusing e h kept (rw (marked, sym number-is, ne-eqb (r .number) 0 h))
 
     pub no-room : {a : ReadAnswer} → r .number ≡ 0 → length (last ++ before) < r .count → a ≡ counted 14 repairs unmet
-        → Answered a (last ++ before)
+        → FromNet a (last ++ before)
     unfolding answerFromNet firstOf
     no-room z h e =
         let more : length before < length (decode (streamIn net) .bytes) = omega (arith, ap length kept, count-is) in
-        refused e (λ z. omega arith) kept (rw (marked, sym number-is, z, lt-ltb (length before) (length (decode (streamIn net) .bytes)) more))
+        refusing e (λ z. omega arith) kept (rw (marked, sym number-is, z, lt-ltb (length before) (length (decode (streamIn net) .bytes)) more))
 
     pub message-read : {after : List ℕ} {second : StreamAnswer} → r .number ≡ 0 → r .count ≤ length (last ++ before)
-        → StreamRead (decode (take (end - 1) net)) (last ++ before) after second → Answered (done (second .count) repairs unmet) after
+        → StreamRead (decode (take (end - 1) net)) (last ++ before) after second → FromNet (done (second .count) repairs unmet) after
     unfolding answerFromNet firstOf messageAfter
     message-read {after} {second} z h read =
         let bytes : List ℕ = decode (streamIn net) .bytes in

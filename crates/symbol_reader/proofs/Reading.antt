@@ -1,11 +1,10 @@
 -- The answers of the stages and the message buffer at exit: what a refusal of 7 to 10 gives, and what the stage behind hands on.
 -- Assumes nothing.
 use Prim.Native.Nat.{ℕ, _≤_, _<_}
-use mathlib.Core.Path.{_≡_, sym, ap, _∙_, subst}
+use mathlib.Core.Path.{_≡_, refl, sym, ap, _∙_, subst}
 use mathlib.Core.Bool.{Bool, true, false}
 use mathlib.Core.List.{List, [], _∷_}
 use native.Mathlib.Omega.{arith}
-use lib.Dec.{ltb}
 use lib.ListN.{length, take, drop}
 use borrow.Author.Tests.{lt-ltb, le-ltb}
 use Rattle.symbology.specs.declared.Params.{Params}
@@ -18,21 +17,12 @@ use Rattle.symbology.specs.Net.{streamIn}
 use Rattle.symbology.specs.Placement.{firstBadModule}
 use Rattle.symbology.specs.Tests.{Row, on, sizesFor}
 use Rattle.symbology.specs.Write.{isLegal}
-use Rattle.symbology.specs.Read.{refused, counted, receivedBits, receivedWord, wrongStuffing, checksFor, messageBitsFor, answerFromNet, answerFromAccepted, answerFromReceived, answerFromMatrix, readAnswer, messageInAccepted, messageIn, messageAfter}
+use Rattle.symbology.specs.Read.{refused, counted, receivedWord, checksFor, messageBitsFor, answerFromNet, answerFromAccepted, answerFromReceived, answerFromMatrix, readAnswer, messageInAccepted, messageIn, messageAfter}
 use Rattle.laws.proofs.Tests.{first-hit, first-miss, first-none, front-passed, legal}
-use Rattle.laws.proofs.Answers.{refused-read}
-use Rattle.laws.proofs.Stages.{from-stuck, from-mended}
+use Rattle.laws.proofs.Answers.{Answered, refusal-answered}
+use Rattle.laws.proofs.Stages.{from-stuck, from-mended, row7, row8}
 use Rattle.ldpc.specs.Work.{wordFor}
 use Rattle.ldpc.specs.Stages.{MendedFor}
-
--- what a stage's contract says: answer and buffer are the defined ones
-abbrev Answered : ReadAnswer → List ℕ → List ℕ → ReadAnswer → List ℕ → Type 0
-Answered is message before a after = (a ≡ is) × (after ≡ messageAfter a message before)
-
--- a refusal leaves the buffer
-refusing : {is a : ReadAnswer} (message before : List ℕ) → (k : ReadAnswer) → (k .number ≡ 0 → ⊥) → a ≡ k → is ≡ k → Answered is message before a before
-refusing {is} {a} message before k some e same =
-    (e ∙ sym same, sym (refused-read a message before (λ z. some (sym (ap (λ (x : ReadAnswer). x .number) e) ∙ z))))
 
 -- ---- from the accepted word
 
@@ -49,7 +39,7 @@ module _ (s : Sizes) (w : List ℕ) (repairs unmet : ℕ) (before : List ℕ) wh
   unfolding answerFromAccepted
   spare-one t e =
       let onward : ReadAnswer = answerFromNet (take (s .net) (messageBitsFor s w)) repairs unmet (length before) in
-      refusing (messageInAccepted s w) before (counted 10 repairs unmet) (λ z. omega arith) e (first-hit row10 [] onward t)
+      refusal-answered (counted 10 repairs unmet) (messageInAccepted s w) before (λ z. omega arith) e refl (first-hit row10 [] onward t)
 
   -- none is
   pub spare-none : {a : ReadAnswer} {after net : List ℕ} → row10 .test ≡ false → net ≡ take (s .net) (messageBitsFor s w)
@@ -74,7 +64,7 @@ module _ {s : Sizes} {work mended : List ℕ} {repairs unmet : ℕ} {stuck : Boo
   -- 9: stuck
   pub stuck-word : {a : ReadAnswer} → stuck ≡ true → a ≡ counted 9 repairs unmet → FromReceived s (wordFor s work) before a before
   stuck-word t e =
-      refusing (messageInAccepted s (lastWord (checksFor s) (wordFor s work))) before (counted 9 repairs unmet) (λ z. omega arith) e
+      refusal-answered (counted 9 repairs unmet) (messageInAccepted s (lastWord (checksFor s) (wordFor s work))) before (λ z. omega arith) e refl
       (from-stuck s (wordFor s work) (length before) (sym (m .stuck-is) ∙ t)
       ∙ sym (rw (m .repairs-are, m .first-is)))
 
@@ -93,13 +83,7 @@ module _ (p : Params) (l matrix before : List ℕ) where
   abbrev FromMatrix : ReadAnswer → List ℕ → Type 0
   FromMatrix a after = Answered (answerFromMatrix p l matrix (length before)) (messageIn p l matrix) before a after
 
-  -- the rows of the tests 7 and 8, and the answer behind them
-  abbrev row7 : Row ReadAnswer
-  row7 = let bad = firstBadModule (p .colours) matrix in on (ltb bad (length matrix)) (refused 7 bad)
-
-  abbrev row8 : Row ReadAnswer
-  row8 = on (wrongStuffing (sizesFor p l) (receivedBits p l matrix)) (refused 8 0)
-
+  -- the answer behind the tests 7 and 8
   abbrev onward : ReadAnswer
   onward = answerFromReceived (sizesFor p l) (receivedWord p l matrix) (length before)
 
@@ -108,29 +92,29 @@ module _ (p : Params) (l matrix before : List ℕ) where
       → FromMatrix a before
   unfolding answerFromMatrix receivedWord
   bad-module {a} {bad} is h e =
-      refusing (messageIn p l matrix) before (refused 7 bad) (λ z. omega arith) e
-      (first-hit row7 (row8 ∷ []) onward (lt-ltb (firstBadModule (p .colours) matrix) (length matrix) (omega arith)) ∙ rw is)
+      refusal-answered (refused 7 bad) (messageIn p l matrix) before (λ z. omega arith) e refl
+      (first-hit (row7 p matrix) (row8 p l matrix ∷ []) onward (lt-ltb (firstBadModule (p .colours) matrix) (length matrix) (omega arith)) ∙ rw is)
 
   module _ {bad : ℕ} (is : bad ≡ firstBadModule (p .colours) matrix) (none : length matrix ≤ bad) where
-    passed-7 : row7 .test ≡ false
+    passed-7 : row7 p matrix .test ≡ false
     passed-7 = le-ltb (firstBadModule (p .colours) matrix) (length matrix) (omega arith)
 
     -- 8: a stuffing bit is wrong
-    pub bad-stuffing : {a : ReadAnswer} → row8 .test ≡ true → a ≡ refused 8 0 → FromMatrix a before
+    pub bad-stuffing : {a : ReadAnswer} → row8 p l matrix .test ≡ true → a ≡ refused 8 0 → FromMatrix a before
     unfolding answerFromMatrix receivedWord
     bad-stuffing t e =
-        refusing (messageIn p l matrix) before (refused 8 0) (λ z. omega arith) e
-        (first-miss row7 (row8 ∷ []) onward passed-7 ∙ first-hit row8 [] onward t)
+        refusal-answered (refused 8 0) (messageIn p l matrix) before (λ z. omega arith) e refl
+        (first-miss (row7 p matrix) (row8 p l matrix ∷ []) onward passed-7 ∙ first-hit (row8 p l matrix) [] onward t)
 
     -- neither
-    pub good-matrix : {s : Sizes} {w after : List ℕ} {a : ReadAnswer} → row8 .test ≡ false → s ≡ sizesFor p l → w ≡ receivedWord p l matrix
+    pub good-matrix : {s : Sizes} {w after : List ℕ} {a : ReadAnswer} → row8 p l matrix .test ≡ false → s ≡ sizesFor p l → w ≡ receivedWord p l matrix
         → FromReceived s w before a after
         → FromMatrix a after
     unfolding answerFromMatrix messageIn receivedWord
     good-matrix {s} {w} {after} {a} t sizes word read =
         let moved : FromReceived s (receivedWord p l matrix) before a after = subst (λ (x : List ℕ). FromReceived s x before a after) word read in
         let given : FromReceived (sizesFor p l) (receivedWord p l matrix) before a after = subst (λ (z : Sizes). FromReceived z (receivedWord p l matrix) before a after) sizes moved in
-        (given .0 ∙ sym (first-miss row7 (row8 ∷ []) onward passed-7 ∙ first-miss row8 [] onward t ∙ first-none onward), given .1)
+        (given .0 ∙ sym (first-miss (row7 p matrix) (row8 p l matrix ∷ []) onward passed-7 ∙ first-miss (row8 p l matrix) [] onward t ∙ first-none onward), given .1)
 
 -- a read of legal input
 pub legal-read : (p : Params) (l matrix : List ℕ) (work room : ℕ) → isLegal p l (length matrix) work ≡ true

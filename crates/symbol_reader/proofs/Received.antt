@@ -31,7 +31,7 @@ use Rattle.ldpc.proofs.Work.{legal-sizes, bits-inside}
 -- ---- the net bits
 
 -- as they are lent
-pub net-lent : (s : Sizes) {a : Areas} (work : List ℕ) → a ≡ areasOf s → take (a .message + s .net - a .message) (drop (a .message) work) ≡ netFor s work
+pub net-lent : (s : Sizes) {a : Areas} (work : List ℕ) → a ≡ areasOf s → part work (a .message) (a .message + s .net - a .message) ≡ netFor s work
 net-lent s {a} work e = part-lent work (a .message) (s .net) ∙ ap (λ (z : Areas). part work (z .message) (s .net)) e
 
 -- ---- the C bits
@@ -59,7 +59,7 @@ module _ {p : Params} {l : List ℕ} {modules : ℕ} {work : List ℕ} {s : Size
   bits-fit = bits-inside (k .code) (k .room) (k .areas-are)
 
   -- what receiving them asks for
-  pub bits-lent : let out = take (a .word + s .capacity - a .word) (drop (a .word) work) in
+  pub bits-lent : let out = part work (a .word) (a .word + s .capacity - a .word) in
       SizedSymbol p l (length out) modules × (length out ≤ 4096)
   bits-lent =
       let c : ℕ = s .capacity in
@@ -81,11 +81,11 @@ module _ {p : Params} {l : List ℕ} {modules : ℕ} {work : List ℕ} {s : Size
         ∙ sampled-whole p l matrix modules (length work) (legal p l modules (length work) (k .legal-is))
         ∙ sym (ap (λ (z : Sizes). z .capacity) (k .sizes-are))
 
-    pub same-room : length (givenBack (a .word) (s .capacity) work bits) ≡ length work
+    pub same-room : length after ≡ length work
     same-room = length-back (a .word) (s .capacity) work bits bits-fit many-bits
 
     -- its word
-    pub word-received : wordFor s (givenBack (a .word) (s .capacity) work bits) ≡ receivedWord p l matrix
+    pub word-received : wordFor s after ≡ receivedWord p l matrix
     unfolding receivedWord
     word-received =
         ap (λ (z : Areas). part after (z .word) (s .gross)) (sym (k .areas-are))
@@ -94,17 +94,17 @@ module _ {p : Params} {l : List ℕ} {modules : ℕ} {work : List ℕ} {s : Size
         ∙ ap (λ (z : Sizes). take (z .gross) (receivedBits p l matrix)) (k .sizes-are)
 
     -- what going on from the word asks for
-    pub word-asks : let w = givenBack (a .word) (s .capacity) work bits in CodeSizes s × (s .work ≤ length w) × AllBits (wordFor s w)
+    pub word-asks : CodeSizes s × (s .work ≤ length after) × AllBits (wordFor s after)
     word-asks = (k .code, omega (arith, same-room, k .room), subst⁻¹ AllBits word-received (received-bits p l matrix))
 
     -- test 8, of the bits behind the word
     pub stuffing-told : {r : Bool}
-        → let end = take (a .word + s .capacity - (a .word + s .gross)) (drop (a .word + s .gross) (givenBack (a .word) (s .capacity) work bits)) in
+        → let end = part after (a .word + s .gross) (a .word + s .capacity - (a .word + s .gross)) in
         r ≡ not (sameBits end (stuffing (length end))) → r ≡ wrongStuffing (sizesFor p l) (receivedBits p l matrix)
     unfolding wrongStuffing
     stuffing-told {r} e =
         let rest : List ℕ = drop (s .gross) bits in
-        let same : take (a .word + s .capacity - (a .word + s .gross)) (drop (a .word + s .gross) after) ≡ rest =
+        let same : part after (a .word + s .gross) (a .word + s .capacity - (a .word + s .gross)) ≡ rest =
         behind-back (a .word) (s .capacity) work bits bits-fit many-bits (s .gross) (k .code .inside) in
         let long : length rest ≡ s .capacity - s .gross = length-drop (s .gross) bits ∙ ap (λ (n : ℕ). n - s .gross) many-bits in
         e

@@ -10,14 +10,11 @@ use lib.ListN.{length, getD}
 use Rattle.symbology.specs.Net.{stuffing}
 use Rattle.symbology.specs.Read.{sameBits}
 use Rattle.laws.proofs.Ranges.{by}
-use Rattle.laws.proofs.Net.{stuffing-at, stuffing-is}
+use Rattle.laws.proofs.Net.{StuffedTo, stuffing-at, stuffing-is}
 use Rattle.laws.proofs.Stages.{same-self, same-means}
 
--- the first i bits are stuffing bits
-abbrev pub StuffedTo : List ℕ → ℕ → Type 0
-StuffedTo bits i = (j : ℕ) → j < i → getD bits j 0 ≡ j % 2
-
 module _ (bits : List ℕ) where
+  -- so is bit i
   pub stuffed-next : (i : ℕ) → StuffedTo bits i → getD bits i 0 ≡ i % 2 → StuffedTo bits (i + 1)
   stuffed-next i before this j h = elim (ℕ-discrete j i) [
     | yes e ↦ rw e this
@@ -30,7 +27,7 @@ module _ (bits : List ℕ) where
       let same : bits ≡ stuffing (length bits) = stuffing-is bits (λ j l. all j (omega arith)) in
       ap not (ap (sameBits bits) (sym same) ∙ same-self bits)
 
-  -- bit i is none
+  -- bit i is not the stuffing bit
   pub wrong-bit : (i : ℕ) → i < length bits → (getD bits i 0 ≡ i % 2 → ⊥) → not (sameBits bits (stuffing (length bits))) ≡ true
   wrong-bit i h differs =
       by (sameBits bits (stuffing (length bits)))

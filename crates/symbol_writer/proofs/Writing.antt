@@ -33,6 +33,7 @@ use Rattle.symbol_writer.specs.Writing.{NetStored, BitsPlaced}
 -- ---- the stages in the work buffer
 
 module _ {s : Sizes} (before : List ℕ) (k : CodeSizes s) (room : s .work ≤ length before) where
+  -- the net bits came back in their area
   pub net-stored : {a : Areas} (message : List ℕ) {new : List ℕ}
       → a ≡ areasOf s
       → length (byteStream message) < s .net
@@ -101,9 +102,11 @@ module _ {s : Sizes} (before : List ℕ) (k : CodeSizes s) (room : s .work ≤ l
         ap₂ (λ (j : ℕ) (ys : List ℕ). putMid seam j encoded ys) rest bits
         ∙ ap (λ (i : ℕ). putMid (i + g) m encoded (stuffing m)) here
 
+    -- it is as long as before
     pub stuffed-long : Stuffed → length later ≡ length before
     stuffed-long is = ap length (stuffed-is is) ∙ stuffed-word encoded coded .0
 
+    -- and the C bits in theirs, interleaved
     pub bits-placed : {new : List ℕ}
         → Stuffed
         → new ≡ shuffled 0 interleavingSeed (part later (a .word) (end - a .word))
@@ -171,6 +174,7 @@ module _ (p : Params) (l message matrix : List ℕ) (room : ℕ) (is-legal : isL
   pub fits : b ≡ false → length (byteStream message) < s .net
   fits f = ltb-false (s .net) (suc (length (byteStream message))) (sym is ∙ f)
 
+  -- and the matrix is stored
   pub room-enough : {after : List ℕ} → b ≡ false → after ≡ writtenMatrix p l message
       → (answer 0 0 ≡ writeAnswer p l message (length matrix) room) × (after ≡ matrixAfterWrite p l message room matrix)
   room-enough f w =

@@ -4,7 +4,8 @@ use mathlib.Core.Path.{sym}
 use native.Mathlib.Omega.{arith}
 use lib.ListN.{length}
 use borrow.Author.Needs.{needs}
-use Rattle.symbol_reader.proofs.Stuffing.{StuffedTo, stuffed-next, right-bits, wrong-bit}
+use Rattle.laws.proofs.Net.{StuffedTo}
+use Rattle.symbol_reader.proofs.Stuffing.{stuffed-next, right-bits, wrong-bit}
 use Rattle.symbol_reader.proofs.is_wrong_stuffing.Statement.{statement}
 use Rattle.symbol_reader.proofs.is_wrong_stuffing.Tie as tie
 
