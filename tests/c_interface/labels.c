@@ -1,5 +1,5 @@
 /* Labels through the C interface: written, read back, damaged and refused. What is expected follows from document 01, or was
- * computed from it by another program. Exits with 1 at the first answer that differs. Symbols keep to document 01's limits for
+ * computed by another program, which is said there. Exits with 1 at the first answer that differs. Symbols keep to document 01's limits for
  * programs: C at most 1,047, wc 3, wr 9, at most 53,964 work bytes. */
 #include "jabcode.h"
 #include <stdio.h>
@@ -131,7 +131,8 @@ static void round_trips(void) {
  * are unmet at first, and the bit itself is suspect. Each repair lowers their number, and one that leaves none unmet turns a bit
  * whose three checks were all unmet: so a word that is mended has 1 repair, and one that is stuck 1 or 2. No two columns of this A
  * stand in the same three checks, so the bit that is turned and leaves none unmet is the damaged one, and the message the right one.
- * That, and that 949 of the 1,044 are mended, was computed by another program from document 01 and 002's Annex E and 4.4.3. */
+ * That, and that 949 of the 1,044 are mended, was computed by another program. It follows the library's definitions of A and of the
+ * rule, not its code, and was written once this one had printed its numbers; its generator and exchanges were compared with Annex E. */
 static void one_bit_turned(void) {
     uint8_t bytes[80], clean[MODULES];
     uint32_t answer[5];
