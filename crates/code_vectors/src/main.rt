@@ -22,10 +22,10 @@ fn areas() -> Areas
         gross: 1044,
         net: 696,
         stride: 131,
-        marks: 45588,
-        word: 45936,
-        numbers: 46983,
-        message: 49071,
+        marks: 45719,
+        word: 46067,
+        numbers: 47114,
+        message: 49202,
     }
 }
 

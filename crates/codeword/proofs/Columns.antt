@@ -1,14 +1,14 @@
 -- Message and check columns as the numbers of an elimination tell them apart: those of the definition.
 -- Assumes nothing.
 use Prim.Native.Nat.{ℕ, _+_, _*_, _≤_, _<_}
-use mathlib.Core.Path.{_≡_, sym, ap, _∙_, subst}
-use mathlib.Core.Bool.{true, not}
+use mathlib.Core.Path.{_≡_, sym, ap, _∙_}
+use mathlib.Core.Bool.{true, false, not}
 use mathlib.Core.List.{List}
 use native.Mathlib.Decide.{decLt}
 use native.Mathlib.Omega.{arith}
 use lib.Dec.{leb, ltb}
 use lib.ListN.{length}
-use borrow.Author.Tests.{ne-eqb, lt-ltb, le-ltb, lt-leb, le-leb}
+use borrow.Author.Tests.{lt-ltb, le-ltb, lt-leb, le-leb, leb-false, not-false}
 use Rattle.symbology.specs.Ranges.{those}
 use Rattle.symbology.specs.Matrix.{BitMatrix}
 use Rattle.symbology.specs.Codeword.{isCheckColumn, messageColumns}
@@ -19,7 +19,7 @@ use Rattle.lent.proofs.Buffer.{number-same}
 use Rattle.dense.specs.Dense.{denseBits}
 use Rattle.dense.proofs.Dense.{rows-kept}
 use Rattle.elimination.specs.Reduced.{rowOf, EliminatedFrom}
-use Rattle.codeword.specs.Columns.{isMessage, RowsApart}
+use Rattle.codeword.specs.Columns.{isMessage, RowsEnd}
 
 -- at least k is not below k
 at-least : (k x : ℕ) → leb k x ≡ not (ltb x k)
@@ -44,20 +44,16 @@ module _ (a : Areas) (m : BitMatrix) (work : List ℕ) (e : EliminatedFrom a m 0
   unfolding messageColumns
   all-messages = messages-are (a .gross) (omega arith)
 
-  check-is : (c : ℕ) → c < a .gross → rowOf a work c < a .checks → isCheckColumn (a .checks) (a .gross) m c ≡ true
-  check-is c h l = sym (e .judged c (omega arith) h) ∙ lt-ltb (rowOf a work c) (a .checks) l
+  -- After an elimination the row of a check column is 0 behind it.
+  pub rows-end : RowsEnd a work
+  rows-end c d h z l g =
+      let check : isCheckColumn (a .checks) (a .gross) m c ≡ true = not-false (isCheckColumn (a .checks) (a .gross) m c) (sym (message-is c h) ∙ z) in
+      e .reduced .high c (omega arith, h, check) d l g
 
-  -- After an elimination the row of a check column has 0 in the other check columns.
-  pub rows-apart : RowsApart a work
-  rows-apart c d h g l r other =
-      let p = check-is c h l in
-      let q = check-is d g r in
-      e .reduced .unit d (omega arith, g, q) (rowOf a work c) l
-      ∙ ne-eqb (rowOf a work c) (rowOf a work d) (λ same. other (e .reduced .row-one c d (omega arith, h, p) (omega arith, g, q) same))
+-- ---- a buffer that is changed behind the rows, up to the end of the word
 
--- ---- a buffer of which only the word is changed
-
-module _ (a : Areas) (before after : List ℕ) (laid : Laid a (length before)) (w : ChangedIn (a .word) (a .word + a .gross) before after) where
+module _ (a : Areas) (before after : List ℕ) {from : ℕ} (laid : Laid a (length before)) (low : a .checks * a .stride ≤ from)
+    (w : ChangedIn from (a .word + a .gross) before after) where
   -- Numbers stay.
   pub row-kept : (c : ℕ) → rowOf a after c ≡ rowOf a before c
   row-kept c =
@@ -69,13 +65,16 @@ module _ (a : Areas) (before after : List ℕ) (laid : Laid a (length before)) (
 
   -- Rows stay.
   pub bits-kept : (i : ℕ) → i < a .checks → (c : ℕ) → c < a .gross → denseBits after (a .stride) i c ≡ denseBits before (a .stride) i c
-  bits-kept i h c g =
-      rows-kept laid before after (a .word) (omega (arith, laid .rows-end, laid .marks-end)) (w .front) i h c g
+  bits-kept i h c g = rows-kept laid before after from low (w .front) i h c g
 
-  -- The rows of check columns stay apart.
-  pub apart-kept : RowsApart a before → RowsApart a after
-  apart-kept apart c d h g l r other =
-      let l′ : rowOf a before c < a .checks = subst (λ (x : ℕ). x < a .checks) (row-kept c) l in
-      ap (λ (x : ℕ). denseBits after (a .stride) x d) (row-kept c)
-      ∙ bits-kept (rowOf a before c) l′ d g
-      ∙ apart c d h g l′ (subst (λ (x : ℕ). x < a .checks) (row-kept d) r) other
+  -- The row of a check column stays.
+  pub own-kept : (c d : ℕ) → isMessage a before c ≡ false → d < a .gross
+      → denseBits after (a .stride) (rowOf a after c) d ≡ denseBits before (a .stride) (rowOf a before c) d
+  own-kept c d z g =
+      ap (λ (i : ℕ). denseBits after (a .stride) i d) (row-kept c)
+      ∙ bits-kept (rowOf a before c) (leb-false (a .checks) (rowOf a before c) z) d g
+
+  -- The rows of check columns end as before.
+  pub ends-kept : RowsEnd a before → RowsEnd a after
+  ends-kept ends c d h z l g =
+      let z′ : isMessage a before c ≡ false = sym (message-kept c) ∙ z in own-kept c d z′ g ∙ ends c d h z′ l g

@@ -1,6 +1,6 @@
 -- The net bits stored column by column: what stands in the columns passed.
 -- Assumes nothing.
-use Prim.Native.Nat.{ℕ, _+_, _≤_, _<_}
+use Prim.Native.Nat.{ℕ, _+_, _*_, _≤_, _<_}
 use mathlib.Core.Path.{_≡_, refl, sym, ap, _∙_}
 use mathlib.Core.Bool.{Bool, true, false, cond}
 use mathlib.Core.List.{List}
@@ -39,6 +39,10 @@ placed-start a work =
     record { changed = changed-none (a .word) (a .word + a .gross) work; counted = refl; passed = λ c h. absurd (omega arith) }
 
 module _ {a : Areas} {before after : List ℕ} {j m : ℕ} (laid : Laid a (length before)) (s : PlacedTo a before after j m) (h : j < a .gross) where
+  -- the rows lie in front of the word
+  in-front : a .checks * a .stride ≤ a .word
+  in-front = omega (arith, laid .rows-end, laid .marks-end)
+
   -- what a message column holds
   placed-in : isMessage a before j ≡ true
       → placedBit a before j ≡ getD (part before (a .message) (a .net)) (length (those j (isMessage a before))) 0
@@ -65,7 +69,7 @@ module _ {a : Areas} {before after : List ℕ} {j m : ℕ} (laid : Laid a (lengt
   pub placed-net : isMessage a after j ≡ true → m < a .net → (m′ v : ℕ) → m′ ≡ m + 1 → v ≡ getD after (a .message + m) 0
       → PlacedTo a before (set after (a .word + j) v) (j + 1) m′
   placed-net t l m′ v e f =
-      let t′ : isMessage a before j ≡ true = sym (message-kept a before after laid (s .changed) j) ∙ t in
+      let t′ : isMessage a before j ≡ true = sym (message-kept a before after laid in-front (s .changed) j) ∙ t in
       stored m′ v (omega (arith, e, s .counted, count-in (isMessage a before) j t′))
       (f
       ∙ s .changed .behind (a .message + m) (omega (arith, laid .word-end, laid .numbers-end))
@@ -77,7 +81,7 @@ module _ {a : Areas} {before after : List ℕ} {j m : ℕ} (laid : Laid a (lengt
   pub placed-spare : isMessage a after j ≡ true → a .net ≤ m → (m′ v : ℕ) → m′ ≡ m + 1 → v ≡ 0
       → PlacedTo a before (set after (a .word + j) v) (j + 1) m′
   placed-spare t l m′ v e f =
-      let t′ : isMessage a before j ≡ true = sym (message-kept a before after laid (s .changed) j) ∙ t in
+      let t′ : isMessage a before j ≡ true = sym (message-kept a before after laid in-front (s .changed) j) ∙ t in
       stored m′ v (omega (arith, e, s .counted, count-in (isMessage a before) j t′))
       (f
       ∙ sym (part-past before (a .message) (a .net) m (laid .message-end) l)
@@ -87,7 +91,7 @@ module _ {a : Areas} {before after : List ℕ} {j m : ℕ} (laid : Laid a (lengt
   -- a check column
   pub placed-check : isMessage a after j ≡ false → (m′ v : ℕ) → m′ ≡ m → v ≡ 0 → PlacedTo a before (set after (a .word + j) v) (j + 1) m′
   placed-check t m′ v e f =
-      let t′ : isMessage a before j ≡ false = sym (message-kept a before after laid (s .changed) j) ∙ t in
+      let t′ : isMessage a before j ≡ false = sym (message-kept a before after laid in-front (s .changed) j) ∙ t in
       stored m′ v (e ∙ s .counted ∙ sym (count-out (isMessage a before) j t′))
       (f ∙ sym (ap (λ (b : Bool). cond b (getD (part before (a .message) (a .net)) (length (those j (isMessage a before))) 0) 0) t′))
 

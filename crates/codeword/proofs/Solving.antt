@@ -1,144 +1,191 @@
 -- The check columns solved one after the other, and the codeword that comes of it.
 -- Assumes nothing.
-use Prim.Native.Nat.{ℕ, zero, suc, _+_, _%_, _≤_, _<_}
-use mathlib.Core.Path.{_≡_, refl, sym, ap, ap₂, _∙_, subst}
-use mathlib.Core.Bool.{Bool, true, false, cond, not, _&&_}
-use mathlib.Core.List.{List, [], _∷_}
+use Prim.Native.Nat.{ℕ, _+_, _*_, _/_, _%_, _≤_, _<_}
+use mathlib.Core.Path.{_≡_, refl, sym, ap, ap₂, _∙_}
+use mathlib.Core.Bool.{Bool, true, false, cond, not, _&&_, xor, and-false}
+use mathlib.Core.List.{List}
 use native.Mathlib.Decide.{ℕ-discrete, decLt}
 use native.Mathlib.Omega.{arith}
-use lib.Dec.{eqb}
+use lib.Dec.{ltb, eqb}
 use lib.ListN.{length, getD, set}
 use lib.Seq.{getD-set-same, getD-set-other}
-use borrow.Author.Tests.{leb-false, lt-leb}
+use borrow.Author.Tests.{eq-eqb, ne-eqb, lt-ltb, le-ltb}
 use Rattle.symbology.specs.Ranges.{tally, those}
 use Rattle.symbology.specs.Bits.{AllBits}
-use Rattle.symbology.specs.Matrix.{BitMatrix, checkOf}
-use Rattle.symbology.specs.Rule.{bitSum, unmet}
+use Rattle.symbology.specs.Matrix.{BitMatrix}
 use Rattle.symbology.specs.Codeword.{isCheckColumn, codeword}
 use Rattle.symbology.proofs.Ranges.{clash}
-use Rattle.laws.proofs.Ranges.{by, those-ext, tally-le}
+use Rattle.laws.proofs.Ranges.{by, tally-le}
 use Rattle.laws.proofs.Bits.{bit-tally}
-use Rattle.laws.proofs.Gf2.{dot, dot-ext, bitAt, bitSum-append, unmet-dot}
+use Rattle.laws.proofs.Gf2.{parity-short, dot, dot-ext, bitAt, xor-none, none-xor}
 use Rattle.laws.proofs.Codeword.{codeword-filled}
 use Rattle.lent.specs.declared.Areas.{Areas}
 use Rattle.lent.specs.Buffer.{part, ChangedIn, Laid}
-use Rattle.lent.proofs.Buffer.{length-part, part-at, part-past, changed-none, changed-set, changed-then}
-use Rattle.dense.specs.Dense.{denseBits}
+use Rattle.lent.proofs.Buffer.{length-part, part-at, part-past, changed-none, changed-wider, changed-set, changed-then}
+use Rattle.dense.specs.Dense.{denseBits, Turned, Packed, PackedIn}
+use Rattle.dense.proofs.Dense.{in-row, row-same}
 use Rattle.elimination.specs.Reduced.{rowOf, isUsed, EliminatedFrom}
-use Rattle.codeword.specs.Columns.{isMessage, solvedBit, RowsApart, Placed, Solved, WordFilled}
-use Rattle.codeword.proofs.Columns.{message-is, messages-are, row-kept, message-kept, bits-kept}
-
--- ---- parities of words that agree in the ones of a row
-
-sum-agree : (n : ℕ) (f : ℕ → Bool) (v w : List ℕ) → ((j : ℕ) → j < n → f j ≡ true → getD v j 0 ≡ getD w j 0)
-    → bitSum (those n f) v ≡ bitSum (those n f) w
-unfolding those bitSum
-sum-agree zero f v w same = refl
-sum-agree (suc n) f v w same =
-    let earlier : bitSum (those n f) v ≡ bitSum (those n f) w = sum-agree n f v w (λ j h. same j (omega arith)) in
-    bitSum-append (those n f) (cond (f n) (n ∷ []) []) v
-    ∙ ap₂ _+_ earlier (last (f n) refl)
-    ∙ sym (bitSum-append (those n f) (cond (f n) (n ∷ []) []) w)
-  where
-    last : (b : Bool) → f n ≡ b → bitSum (cond b (n ∷ []) []) v ≡ bitSum (cond b (n ∷ []) []) w
-    last true e = ap (λ (x : ℕ). x + 0) (same n (omega arith) e)
-    last false e = refl
-
-parity-agree : (n : ℕ) (f g : ℕ → Bool) (v w : List ℕ) → ((j : ℕ) → j < n → f j ≡ g j)
-    → ((j : ℕ) → j < n → g j ≡ true → getD v j 0 ≡ getD w j 0) → unmet (those n f) v ≡ unmet (those n g) w
-unfolding unmet
-parity-agree n f g v w rows same =
-    ap (λ (l : List ℕ). bitSum l v % 2) (those-ext n f g rows) ∙ ap (λ (x : ℕ). x % 2) (sum-agree n g v w same)
+use Rattle.codeword.specs.Columns.{isMessage, RowsEnd, ChecksZero, wordBit, Placed, Solved, WordFilled}
+use Rattle.codeword.proofs.Columns.{message-is, messages-are, message-kept, own-kept}
 
 -- ---- the columns passed
 
--- a message column holds what it held
-solved-in : (a : Areas) (work : List ℕ) (c : ℕ) → isMessage a work c ≡ true → solvedBit a work c ≡ getD work (a .word + c) 0
-solved-in a work c t =
-    ap (λ (b : Bool). cond b (getD work (a .word + c) 0)
-    (unmet (checkOf (a .gross) (denseBits work (a .stride)) (rowOf a work c)) (part work (a .word) (a .gross)))) t
+-- the row of a check column
+abbrev rowBits : Areas → List ℕ → ℕ → ℕ → Bool
+rowBits a work c = denseBits work (a .stride) (rowOf a work c)
 
--- a check column holds the parity
-solved-out : (a : Areas) (work : List ℕ) (c : ℕ) → isMessage a work c ≡ false
-    → solvedBit a work c ≡ unmet (checkOf (a .gross) (denseBits work (a .stride)) (rowOf a work c)) (part work (a .word) (a .gross))
-solved-out a work c t =
-    ap (λ (b : Bool). cond b (getD work (a .word + c) 0)
-    (unmet (checkOf (a .gross) (denseBits work (a .stride)) (rowOf a work c)) (part work (a .word) (a .gross)))) t
-
--- the check columns up to c are solved
+-- the check columns up to c are solved, and the word stands as the row behind the rows
 pub record SolvedTo (a : Areas) (before after : List ℕ) (c : ℕ) : Type 0 where
-  pub changed : ChangedIn (a .word) (a .word + a .gross) before after
-  pub passed : (d : ℕ) → d < c → getD after (a .word + d) 0 ≡ solvedBit a before d
+  pub changed : ChangedIn (a .checks * a .stride) (a .word + a .gross) before after
+  pub packed : Packed (a .stride) (a .checks) (a .word) (a .gross) after
+  pub kept : (d : ℕ) → d < a .gross → isMessage a before d ≡ true → getD after (a .word + d) 0 ≡ getD before (a .word + d) 0
   pub rest : (d : ℕ) → c ≤ d → getD after (a .word + d) 0 ≡ getD before (a .word + d) 0
+  pub passed : (d : ℕ) → d < c → isMessage a before d ≡ false → getD after (a .word + d) 0 ≡ tally (dot d (rowBits a before d) (wordBit a after))
 
-pub solved-start : (a : Areas) (work : List ℕ) → SolvedTo a work work 0
-solved-start a work =
-    record { changed = changed-none (a .word) (a .word + a .gross) work; passed = λ d h. absurd (omega arith); rest = λ d h. refl }
+pub solved-start : (a : Areas) (work : List ℕ) → Packed (a .stride) (a .checks) (a .word) (a .gross) work → SolvedTo a work work 0
+solved-start a work p =
+    record {
+      changed = changed-none (a .checks * a .stride) (a .word + a .gross) work;
+      packed = p;
+      kept = λ d h t. refl;
+      rest = λ d h. refl;
+      passed = λ d h. absurd (omega arith);
+    }
 
 module _ {a : Areas} {before after : List ℕ} {c : ℕ} (laid : Laid a (length before)) (s : SolvedTo a before after c) (h : c < a .gross) where
-  room : a .word + a .gross ≤ length before
-  room = omega (arith, laid .word-end, laid .numbers-end, laid .message-end)
+  kind : isMessage a after c ≡ isMessage a before c
+  kind = message-kept a before after laid (omega arith) (s .changed) c
 
-  -- a column that is no check column holds what it held
+  -- a message column holds what it held
   pub solved-message : isMessage a after c ≡ true → SolvedTo a before after (c + 1)
   solved-message t =
-      let t′ : isMessage a before c ≡ true = sym (message-kept a before after laid (s .changed) c) ∙ t in
       record {
         changed = s .changed;
-        passed = λ d l.
+        packed = s .packed;
+        kept = s .kept;
+        rest = λ d l. s .rest d (omega arith);
+        passed = λ d l z.
+            elim (ℕ-discrete d c) [
+              | yes same ↦ clash (rw same (sym kind ∙ t)) z
+              | no other ↦ s .passed d (omega arith) z
+            ];
+      }
+
+  module _ (ends : RowsEnd a before) (zeros : ChecksZero a before) (z : isMessage a after c ≡ false) where
+    check : isMessage a before c ≡ false
+    check = sym kind ∙ z
+
+    -- the column's own bit is 0 so far
+    own-zero : getD after (a .word + c) 0 ≡ 0
+    own-zero = s .rest c (omega arith) ∙ zeros c h check
+
+    -- The parity of the column's row and the packed word is that over the columns before it.
+    parity-is : dot (a .stride * 8) (rowBits a after c) (denseBits after (a .stride) (a .checks)) ≡ dot c (rowBits a before c) (wordBit a after)
+    parity-is =
+        parity-short c (a .stride * 8) (λ d. rowBits a after c d && denseBits after (a .stride) (a .checks) d) (omega (arith, laid .wide)) past
+        ∙ dot-ext c (rowBits a after c) (rowBits a before c) (denseBits after (a .stride) (a .checks)) (wordBit a after)
+        (λ d l. own-kept a before after laid (omega arith) (s .changed) c d check (omega arith))
+        (λ d l. s .packed d (in-row (a .gross) (a .stride) d (laid .wide) (omega arith)) ∙ ap (λ (b : Bool). b && wordBit a after d) (lt-ltb d (a .gross) (omega arith)))
+      where
+        past : (d : ℕ) → c ≤ d → d < a .stride * 8 → (rowBits a after c d && denseBits after (a .stride) (a .checks) d) ≡ false
+        past d l g =
             elim (ℕ-discrete d c) [
               | yes same ↦
                   rw same
-                  (s .rest c (omega arith) ∙ sym (solved-in a before c t′))
-              | no other ↦ s .passed d (omega arith)
-            ];
-        rest = λ d l. s .rest d (omega arith);
-      }
+                  (ap (λ (b : Bool). rowBits a after c c && b)
+                  (s .packed c (in-row (a .gross) (a .stride) c (laid .wide) h) ∙ ap (λ (v : ℕ). ltb c (a .gross) && eqb (v % 2) 1) own-zero ∙ and-false (ltb c (a .gross)))
+                  ∙ and-false (rowBits a after c c))
+              | no other ↦
+                  elim (decLt d (a .gross)) [
+                    | yes inside ↦
+                        ap (λ (b : Bool). b && denseBits after (a .stride) (a .checks) d)
+                        (own-kept a before after laid (omega arith) (s .changed) c d check inside ∙ ends c d h check (omega arith) inside)
+                    | no outside ↦
+                        ap (λ (b : Bool). rowBits a after c d && b)
+                        (s .packed d (omega arith) ∙ ap (λ (b : Bool). b && wordBit a after d) (le-ltb d (a .gross) (omega arith)))
+                        ∙ and-false (rowBits a after c d)
+                  ]
+            ]
 
-  -- the parity of the column's row is that over the word before
-  parity-is : RowsApart a before → rowOf a before c < a .checks
-      → unmet (checkOf (a .gross) (denseBits after (a .stride)) (rowOf a before c)) (part after (a .word) (a .gross))
-      ≡ unmet (checkOf (a .gross) (denseBits before (a .stride)) (rowOf a before c)) (part before (a .word) (a .gross))
-  unfolding checkOf
-  parity-is apart l =
-      parity-agree (a .gross) (denseBits after (a .stride) (rowOf a before c)) (denseBits before (a .stride) (rowOf a before c))
-      (part after (a .word) (a .gross)) (part before (a .word) (a .gross))
-      (λ j g. bits-kept a before after laid (s .changed) (rowOf a before c) l j g)
-      (λ j g o. part-at after (a .word) (a .gross) j g ∙ same j g o ∙ sym (part-at before (a .word) (a .gross) j g))
-    where
-      same : (j : ℕ) → j < a .gross → denseBits before (a .stride) (rowOf a before c) j ≡ true
-          → getD after (a .word + j) 0 ≡ getD before (a .word + j) 0
-      same j g o =
-          elim (decLt j c) [
-            | no late ↦ s .rest j (omega arith)
-            | yes early ↦
-                s .passed j early
-                ∙ by (isMessage a before j)
-                (λ t. solved-in a before j t)
-                (λ t. clash o (apart c j h g l (leb-false (a .checks) (rowOf a before j) t) (λ e. omega arith)))
-          ]
+    -- the parity is even: the bit stays 0
+    pub solved-even : {v : ℕ} → v ≡ tally (dot (a .stride * 8) (rowBits a after c) (denseBits after (a .stride) (a .checks))) → (v ≡ 1 → ⊥)
+        → SolvedTo a before after (c + 1)
+    solved-even {v} e odd =
+        record {
+          changed = s .changed;
+          packed = s .packed;
+          kept = s .kept;
+          rest = λ d l. s .rest d (omega arith);
+          passed = λ d l z′.
+              elim (ℕ-discrete d c) [
+                | yes same ↦
+                    rw same
+                    (let few = tally-le (dot (a .stride * 8) (rowBits a after c) (denseBits after (a .stride) (a .checks))) in
+                    let none : v ≡ 0 = omega (arith, few, e) in own-zero ∙ sym none ∙ e ∙ ap tally parity-is)
+                | no other ↦ s .passed d (omega arith) z′
+              ];
+        }
 
-  -- a check column
-  pub solved-check : RowsApart a before → rowOf a after c < a .checks → (v : ℕ)
-      → v ≡ unmet (checkOf (a .gross) (denseBits after (a .stride)) (rowOf a after c)) (part after (a .word) (a .gross))
-      → SolvedTo a before (set after (a .word + c) v) (c + 1)
-  solved-check apart l v e =
-      let kept : rowOf a after c ≡ rowOf a before c = row-kept a before after laid (s .changed) c in
-      let l′ : rowOf a before c < a .checks = subst (λ (x : ℕ). x < a .checks) kept l in
-      let value : v ≡ solvedBit a before c =
-      e
-      ∙ ap (λ (i : ℕ). unmet (checkOf (a .gross) (denseBits after (a .stride)) i) (part after (a .word) (a .gross))) kept
-      ∙ parity-is apart l′
-      ∙ sym (solved-out a before c (lt-leb (a .checks) (rowOf a before c) l′)) in
-      record {
-        changed = changed-set (s .changed) (a .word + c) v (omega arith) (omega arith);
-        passed = λ d g.
-            elim (ℕ-discrete d c) [
-              | yes same ↦ rw same (getD-set-same after (a .word + c) v 0 (omega (arith, s .changed .long, room)) ∙ value)
-              | no other ↦ getD-set-other after (a .word + c) (a .word + d) v 0 (λ f. other (omega arith)) ∙ s .passed d (omega arith)
-            ];
-        rest = λ d g. getD-set-other after (a .word + c) (a .word + d) v 0 (λ f. omega arith) ∙ s .rest d (omega arith);
-      }
+    -- the parity is odd: the bit is stored and turned in the packed word
+    pub solved-odd : {v : ℕ} {later : List ℕ} → v ≡ tally (dot (a .stride * 8) (rowBits a after c) (denseBits after (a .stride) (a .checks))) → v ≡ 1
+        → Turned (a .stride) (a .checks) c (set after (a .word + c) 1) later → SolvedTo a before later (c + 1)
+    solved-odd {v} {later} e odd t =
+        record {
+          changed = changed-then stored (t .changed) (omega arith) (omega (arith, laid .rows-end, laid .marks-end));
+          packed = λ d l. t .bits (a .checks) d l ∙ turned d l;
+          kept = λ d l m. elsewhere d (λ same. clash (sym (ap (isMessage a before) same) ∙ m) check) ∙ s .kept d l m;
+          rest = λ d l. elsewhere d (λ same. omega arith) ∙ s .rest d (omega arith);
+          passed = λ d l z′.
+              elim (ℕ-discrete d c) [
+                | yes same ↦ rw same (there ∙ sym odd ∙ e ∙ ap tally (parity-is ∙ before-it c (omega arith)))
+                | no other ↦ elsewhere d other ∙ s .passed d (omega arith) z′ ∙ ap tally (before-it d (omega arith))
+              ];
+        }
+      where
+        room : a .word + a .gross ≤ length before
+        room = omega (arith, laid .word-end, laid .numbers-end, laid .message-end)
+
+        stored : ChangedIn (a .checks * a .stride) (a .word + a .gross) before (set after (a .word + c) 1)
+        stored = changed-set (s .changed) (a .word + c) 1 (omega (arith, laid .rows-end, laid .marks-end)) (omega arith)
+
+        -- the word is as it was stored
+        behind : (d : ℕ) → getD later (a .word + d) 0 ≡ getD (set after (a .word + c) 1) (a .word + d) 0
+        behind d = t .changed .behind (a .word + d) (omega (arith, laid .rows-end, laid .marks-end))
+
+        there : getD later (a .word + c) 0 ≡ 1
+        there = behind c ∙ getD-set-same after (a .word + c) 1 0 (omega (arith, s .changed .long, room))
+
+        elsewhere : (d : ℕ) → (d ≡ c → ⊥) → getD later (a .word + d) 0 ≡ getD after (a .word + d) 0
+        elsewhere d other = behind d ∙ getD-set-other after (a .word + c) (a .word + d) 1 0 (λ f. other (omega arith))
+
+        -- the columns before c are as they were
+        before-it : (d : ℕ) → d ≤ c → dot d (rowBits a before d) (wordBit a after) ≡ dot d (rowBits a before d) (wordBit a later)
+        before-it d l =
+            dot-ext d (rowBits a before d) (rowBits a before d) (wordBit a after) (wordBit a later) (λ x g. refl)
+            (λ x g. ap (λ (v : ℕ). eqb (v % 2) 1) (sym (elsewhere x (λ same. omega arith))))
+
+        -- the packed word
+        turned : (d : ℕ) → d / 8 < a .stride
+            → xor (denseBits (set after (a .word + c) 1) (a .stride) (a .checks) d) (eqb (a .checks) (a .checks) && eqb d c)
+            ≡ (ltb d (a .gross) && wordBit a later d)
+        turned d l =
+            ap₂ (λ (b z : Bool). xor b (z && eqb d c))
+            (row-same after (set after (a .word + c) 1) (a .stride) (a .checks) d l
+            (λ q g. getD-set-other after (a .word + c) q 1 0 (λ f. omega (arith, laid .rows-end, laid .marks-end)))
+            ∙ s .packed d l)
+            (eq-eqb (a .checks) (a .checks) refl)
+            ∙ elim (ℕ-discrete d c) [
+              | yes same ↦
+                  rw same
+                  (ap₂ (λ (v : ℕ) (b : Bool). xor (ltb c (a .gross) && eqb (v % 2) 1) b) own-zero (eq-eqb c c refl)
+                  ∙ ap (λ (b : Bool). xor b true) (and-false (ltb c (a .gross)))
+                  ∙ none-xor true
+                  ∙ sym (ap₂ (λ (b : Bool) (v : ℕ). b && eqb (v % 2) 1) (lt-ltb c (a .gross) h) there))
+              | no other ↦
+                  ap (xor (ltb d (a .gross) && wordBit a after d)) (ne-eqb d c other)
+                  ∙ xor-none (ltb d (a .gross) && wordBit a after d)
+                  ∙ ap (λ (v : ℕ). ltb d (a .gross) && eqb (v % 2) 1) (sym (elsewhere d other))
+            ]
 
 -- a state under another name
 pub solved-as : {a : Areas} {before after after′ : List ℕ} {c : ℕ} → SolvedTo a before after c → after′ ≡ after → SolvedTo a before after′ c
@@ -146,81 +193,76 @@ solved-as s e = rw e s
 
 -- all columns are passed
 pub solved-all : {a : Areas} {before after : List ℕ} → SolvedTo a before after (a .gross) → Solved a before after
-solved-all s = record { changed = s .changed; solved = s .passed }
+solved-all s = record { changed = s .changed; kept = s .kept; solved = s .passed }
 
 -- ---- the codeword
 
-module _ {a : Areas} {before mid after : List ℕ} (laid : Laid a (length before)) (are-bits : AllBits (part before (a .message) (a .net)))
-    (p : Placed a before mid) (s : Solved a mid after) (m : BitMatrix) (e : EliminatedFrom a m 0 before) where
+-- storing the net bits and packing the word change nothing but the word and what lies before it behind the rows
+pub placed-packed : {a : Areas} {before mid packed : List ℕ} → Laid a (length before) → Placed a before mid
+    → PackedIn (a .stride) (a .checks) (a .word) (a .gross) mid packed → ChangedIn (a .checks * a .stride) (a .word + a .gross) before packed
+placed-packed laid p k =
+    changed-then (changed-wider (p .changed) (omega (arith, laid .rows-end, laid .marks-end)) (omega arith)) (k .changed) (omega arith)
+    (omega (arith, laid .rows-end, laid .marks-end))
+
+-- where the net bits are stored the check columns are 0
+pub placed-zeros : {a : Areas} {before mid packed : List ℕ} → Laid a (length before) → Placed a before mid
+    → PackedIn (a .stride) (a .checks) (a .word) (a .gross) mid packed → ChecksZero a packed
+placed-zeros {a} {before} {packed = packed} laid p k c h z =
+    k .changed .behind (a .word + c) (omega (arith, laid .rows-end, laid .marks-end))
+    ∙ p .placed c h
+    ∙ ap (λ (b : Bool). cond b (getD (part before (a .message) (a .net)) (length (those c (isMessage a before))) 0) 0)
+    (sym (message-kept a before packed laid (omega arith) (placed-packed laid p k) c) ∙ z)
+
+module _ {a : Areas} {before mid packed after : List ℕ} (laid : Laid a (length before)) (are-bits : AllBits (part before (a .message) (a .net)))
+    (p : Placed a before mid) (k : PackedIn (a .stride) (a .checks) (a .word) (a .gross) mid packed) (s : Solved a packed after)
+    (m : BitMatrix) (e : EliminatedFrom a m 0 before) where
   chk : ℕ → Bool
   chk = isCheckColumn (a .checks) (a .gross) m
 
-  mid-kept : (c : ℕ) → c < a .gross → isMessage a mid c ≡ not (chk c)
-  unfolding chk
-  mid-kept c h = message-kept a before mid laid (p .changed) c ∙ message-is a m before e c h
+  to-packed : ChangedIn (a .checks * a .stride) (a .word + a .gross) before packed
+  to-packed = placed-packed laid p k
 
-  room-mid : a .word + a .gross ≤ length mid
-  room-mid = omega (arith, p .changed .long, laid .word-end, laid .numbers-end, laid .message-end)
+  kind-is : (c : ℕ) → c < a .gross → isMessage a packed c ≡ not (chk c)
+  unfolding chk
+  kind-is c h = message-kept a before packed laid (omega arith) to-packed c ∙ message-is a m before e c h
 
   room-after : a .word + a .gross ≤ length after
-  room-after = omega (arith, s .changed .long, room-mid)
+  room-after = omega (arith, s .changed .long, to-packed .long, laid .word-end, laid .numbers-end, laid .message-end)
 
   w : List ℕ
   w = part after (a .word) (a .gross)
 
-  w-at : (c : ℕ) → c < a .gross → getD w c 0 ≡ solvedBit a mid c
+  w-bit : (c : ℕ) → c < a .gross → bitAt w c ≡ wordBit a after c
   unfolding w
-  w-at c h = part-at after (a .word) (a .gross) c h ∙ s .solved c h
+  w-bit c h = ap (λ (x : ℕ). eqb (x % 2) 1) (part-at after (a .word) (a .gross) c h)
 
-  -- the placed word: net bits in message columns, 0 in check columns
-  placed-message : (c : ℕ) → c < a .gross → chk c ≡ false
-      → getD mid (a .word + c) 0 ≡ getD (part before (a .message) (a .net)) (length (those c (λ j. not (chk j)))) 0
-  unfolding chk
-  placed-message c h z =
-      p .placed c h
+  -- net bits in the message columns
+  message-bit : (c : ℕ) → c < a .gross → chk c ≡ false
+      → getD w c 0 ≡ getD (part before (a .message) (a .net)) (length (those c (λ j. not (chk j)))) 0
+  unfolding w chk
+  message-bit c h z =
+      part-at after (a .word) (a .gross) c h
+      ∙ s .kept c h (kind-is c h ∙ ap not z)
+      ∙ k .changed .behind (a .word + c) (omega (arith, laid .rows-end, laid .marks-end))
+      ∙ p .placed c h
       ∙ ap (λ (b : Bool). cond b (getD (part before (a .message) (a .net)) (length (those c (isMessage a before))) 0) 0) (message-is a m before e c h ∙ ap not z)
       ∙ ap (λ (l : List ℕ). getD (part before (a .message) (a .net)) (length l) 0) (messages-are a m before e c (omega arith))
 
-  placed-check : (c : ℕ) → c < a .gross → chk c ≡ true → getD mid (a .word + c) 0 ≡ 0
-  unfolding chk
-  placed-check c h z =
-      p .placed c h
-      ∙ ap (λ (b : Bool). cond b (getD (part before (a .message) (a .net)) (length (those c (isMessage a before))) 0) 0) (message-is a m before e c h ∙ ap not z)
-
-  message-bit : (c : ℕ) → c < a .gross → chk c ≡ false → getD w c 0 ≡ getD mid (a .word + c) 0
-  message-bit c h z =
-      w-at c h ∙ solved-in a mid c (mid-kept c h ∙ ap not z)
-
-  -- the bits of the placed word are those of the message columns of the word
-  placed-bit : (c : ℕ) → c < a .gross → bitAt (part mid (a .word) (a .gross)) c ≡ (not (chk c) && bitAt w c)
-  placed-bit c h =
-      ap (λ (x : ℕ). eqb (x % 2) 1) (part-at mid (a .word) (a .gross) c h)
-      ∙ by (chk c)
-      (λ z. ap (λ (x : ℕ). eqb (x % 2) 1) (placed-check c h z) ∙ sym (ap (λ (b : Bool). not b && bitAt w c) z))
-      (λ z. ap (λ (x : ℕ). eqb (x % 2) 1) (sym (message-bit c h z)) ∙ sym (ap (λ (b : Bool). not b && bitAt w c) z))
-
-  row-below : (c : ℕ) → c < a .gross → chk c ≡ true → rowOf a before c < a .checks
-  unfolding chk
-  row-below c h z = e .reduced .row-lt c (omega arith, h, z)
-
-  check-value : (c : ℕ) → c < a .gross → chk c ≡ true
-      → getD w c 0 ≡ tally (dot (a .gross) (denseBits before (a .stride) (rowOf a before c)) (λ j. not (chk j) && bitAt w j))
-  unfolding checkOf
-  check-value c h z =
-      let same : rowOf a mid c ≡ rowOf a before c = row-kept a before mid laid (p .changed) c in
-      w-at c h
-      ∙ solved-out a mid c (mid-kept c h ∙ ap not z)
-      ∙ ap (λ (i : ℕ). unmet (those (a .gross) (denseBits mid (a .stride) i)) (part mid (a .word) (a .gross))) same
-      ∙ unmet-dot (a .gross) (denseBits mid (a .stride) (rowOf a before c)) (part mid (a .word) (a .gross))
-      ∙ ap tally (dot-ext (a .gross) (denseBits mid (a .stride) (rowOf a before c)) (denseBits before (a .stride) (rowOf a before c))
-      (bitAt (part mid (a .word) (a .gross))) (λ j. not (chk j) && bitAt w j)
-      (λ j g. bits-kept a before mid laid (p .changed) (rowOf a before c) (row-below c h z) j g) (λ j g. placed-bit j g))
+  -- in the check columns the sums of the earlier bits in the ones of their rows
+  check-bit : (c : ℕ) → c < a .gross → chk c ≡ true → getD w c 0 ≡ tally (dot c (rowBits a before c) (bitAt w))
+  unfolding w chk
+  check-bit c h z =
+      part-at after (a .word) (a .gross) c h
+      ∙ s .solved c h (kind-is c h ∙ ap not z)
+      ∙ ap tally (dot-ext c (rowBits a packed c) (rowBits a before c) (wordBit a after) (bitAt w)
+      (λ d l. own-kept a before packed laid (omega arith) to-packed c d (message-is a m before e c h ∙ ap not z) (omega arith))
+      (λ d l. sym (w-bit d (omega arith))))
 
   bits-inside : (c : ℕ) → c < a .gross → getD w c 0 ≤ 1
   bits-inside c h =
       by (chk c)
-      (λ z. omega (arith, check-value c h z, tally-le (dot (a .gross) (denseBits before (a .stride) (rowOf a before c)) (λ j. not (chk j) && bitAt w j))))
-      (λ z. omega (arith, message-bit c h z, placed-message c h z, are-bits (length (those c (λ j. not (chk j))))))
+      (λ z. omega (arith, check-bit c h z, tally-le (dot c (rowBits a before c) (bitAt w))))
+      (λ z. omega (arith, message-bit c h z, are-bits (length (those c (λ j. not (chk j))))))
 
   w-bits : AllBits w
   unfolding w
@@ -236,15 +278,14 @@ module _ {a : Areas} {before mid after : List ℕ} (laid : Laid a (length before
   solved-codeword =
       sym (codeword-filled (a .checks) (a .gross) m (part before (a .message) (a .net))
       (denseBits before (a .stride)) (isUsed a before) (rowOf a before) (e .reduced) w (length-part after (a .word) (a .gross) room-after) w-bits
-      (λ c h z. message-bit c h z ∙ placed-message c h z)
-      (λ c h z. ap (λ (x : ℕ). eqb (x % 2) 1) (check-value c h z)
-      ∙ bit-tally (dot (a .gross) (denseBits before (a .stride) (rowOf a before c)) (λ j. not (chk j) && bitAt w j))))
+      message-bit
+      (λ c h z. ap (λ (x : ℕ). eqb (x % 2) 1) (check-bit c h z) ∙ bit-tally (dot c (rowBits a before c) (bitAt w))))
 
--- The word filled in two steps is the codeword of the net bits.
-pub word-filled : {a : Areas} {before mid after : List ℕ} → Laid a (length before) → AllBits (part before (a .message) (a .net))
-    → Placed a before mid → Solved a mid after → WordFilled a before after
-word-filled laid are-bits p s =
+-- The word filled in three steps is the codeword of the net bits.
+pub word-filled : {a : Areas} {before mid packed after : List ℕ} → Laid a (length before) → AllBits (part before (a .message) (a .net))
+    → Placed a before mid → PackedIn (a .stride) (a .checks) (a .word) (a .gross) mid packed → Solved a packed after → WordFilled a before after
+word-filled laid are-bits p k s =
     record {
-      changed = changed-then (p .changed) (s .changed) (omega arith) (omega arith);
-      word-is = λ m e. solved-codeword laid are-bits p s m e;
+      changed = changed-then (placed-packed laid p k) (s .changed) (omega arith) (omega arith);
+      word-is = λ m e. solved-codeword laid are-bits p k s m e;
     }

@@ -1,16 +1,16 @@
 -- Message and check columns of the work buffer, as the numbers of an elimination tell them apart, and words stored and read by them.
 -- Assumes nothing.
-use Prim.Native.Nat.{ℕ, _+_, _<_}
+use Prim.Native.Nat.{ℕ, _+_, _*_, _%_, _<_}
 use mathlib.Core.Path.{_≡_}
-use mathlib.Core.Bool.{Bool, false, cond}
+use mathlib.Core.Bool.{Bool, true, false, cond}
 use mathlib.Core.List.{List}
-use lib.Dec.{leb}
+use lib.Dec.{leb, eqb}
 use lib.ListN.{length, getD, take, drop}
 use Rattle.symbology.specs.Bits.{anyOne}
-use Rattle.symbology.specs.Ranges.{those}
-use Rattle.symbology.specs.Matrix.{BitMatrix, checkOf}
-use Rattle.symbology.specs.Rule.{unmet}
+use Rattle.symbology.specs.Ranges.{tally, those}
+use Rattle.symbology.specs.Matrix.{BitMatrix}
 use Rattle.symbology.specs.Codeword.{codeword, messageBits}
+use Rattle.laws.proofs.Gf2.{dot}
 use Rattle.lent.specs.declared.Areas.{Areas}
 use Rattle.lent.specs.Buffer.{part, ChangedIn}
 use Rattle.dense.specs.Dense.{denseBits}
@@ -20,16 +20,18 @@ use Rattle.elimination.specs.Reduced.{rowOf, EliminatedFrom}
 abbrev pub isMessage : Areas → List ℕ → ℕ → Bool
 isMessage a work j = leb (a .checks) (rowOf a work j)
 
--- the row of a check column has 0 in the other check columns
-abbrev pub RowsApart : Areas → List ℕ → Type 0
-RowsApart a work =
-    (c d : ℕ)
-    → c < a .gross
-    → d < a .gross
-    → rowOf a work c < a .checks
-    → rowOf a work d < a .checks
-    → (c ≡ d → ⊥)
-    → denseBits work (a .stride) (rowOf a work c) d ≡ false
+-- the row of a check column is 0 behind it
+abbrev pub RowsEnd : Areas → List ℕ → Type 0
+RowsEnd a work =
+    (c d : ℕ) → c < a .gross → isMessage a work c ≡ false → c < d → d < a .gross → denseBits work (a .stride) (rowOf a work c) d ≡ false
+
+-- the word is 0 in the check columns
+abbrev pub ChecksZero : Areas → List ℕ → Type 0
+ChecksZero a work = (c : ℕ) → c < a .gross → isMessage a work c ≡ false → getD work (a .word + c) 0 ≡ 0
+
+-- the bit of the word in a column
+abbrev pub wordBit : Areas → List ℕ → ℕ → Bool
+wordBit a work c = eqb (getD work (a .word + c) 0 % 2) 1
 
 -- what a column holds where the net bits are stored: those in the message columns, ascending, 0 in the spare ones and in the check columns
 abbrev pub placedBit : Areas → List ℕ → ℕ → ℕ
@@ -41,20 +43,20 @@ pub record Placed (a : Areas) (before after : List ℕ) : Type 0 where
   pub changed : ChangedIn (a .word) (a .word + a .gross) before after
   pub placed : (j : ℕ) → j < a .gross → getD after (a .word + j) 0 ≡ placedBit a before j
 
--- what a column holds where the check columns are solved: each the parity of its row over the word
-abbrev pub solvedBit : Areas → List ℕ → ℕ → ℕ
-solvedBit a work c =
-    cond (isMessage a work c) (getD work (a .word + c) 0)
-    (unmet (checkOf (a .gross) (denseBits work (a .stride)) (rowOf a work c)) (part work (a .word) (a .gross)))
-
--- the check columns are solved, and nothing else is changed
+-- the check columns are solved: each holds the parity of its row over the columns before it. Only the word and the row behind the rows
+-- are changed, and marks, of which nothing is said.
 pub record Solved (a : Areas) (before after : List ℕ) : Type 0 where
-  pub changed : ChangedIn (a .word) (a .word + a .gross) before after
-  pub solved : (c : ℕ) → c < a .gross → getD after (a .word + c) 0 ≡ solvedBit a before c
+  pub changed : ChangedIn (a .checks * a .stride) (a .word + a .gross) before after
+  pub kept : (c : ℕ) → c < a .gross → isMessage a before c ≡ true → getD after (a .word + c) 0 ≡ getD before (a .word + c) 0
+  pub solved : (c : ℕ)
+      → c < a .gross
+      → isMessage a before c ≡ false
+      → getD after (a .word + c) 0 ≡ tally (dot c (denseBits before (a .stride) (rowOf a before c)) (wordBit a after))
 
--- the word is the codeword of the net bits, for the matrix whose elimination the buffer holds
+-- The word is the codeword of the net bits, for the matrix whose elimination the buffer holds. The row behind the rows and the marks are
+-- scratch: nothing is said of them.
 pub record WordFilled (a : Areas) (before after : List ℕ) : Type 0 where
-  pub changed : ChangedIn (a .word) (a .word + a .gross) before after
+  pub changed : ChangedIn (a .checks * a .stride) (a .word + a .gross) before after
   pub word-is : (m : BitMatrix)
       → EliminatedFrom a m 0 before
       → part after (a .word) (a .gross) ≡ codeword (a .checks) (a .gross) m (part before (a .message) (a .net))

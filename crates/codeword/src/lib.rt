@@ -3,8 +3,9 @@
 use lent::Areas;
 ghost use lib.ListN.{length};
 ghost use Rattle.lent.specs.Buffer.{part, Laid};
+ghost use Rattle.dense.specs.Dense.{Packed};
 ghost use Rattle.elimination.specs.Reduced.{HoldsElimination};
-ghost use Rattle.codeword.specs.Columns.{RowsApart, Placed, Solved, WordFilled, MessageRead};
+ghost use Rattle.codeword.specs.Columns.{RowsEnd, ChecksZero, Placed, Solved, WordFilled, MessageRead};
 ghost use Rattle.symbology.specs.Bits.{AllBits};
 
 // Stores the net bits in the message columns, ascending, and 0 in the spare ones and the check columns.
@@ -32,10 +33,11 @@ fn place_message(work: &mut [u8], a: Areas)
     }
 }
 
-// Stores in each check column the parity of its row over the word. The row has a 1 in no other check
-// column, so that the order does not matter; `place_message` has left the column's own bit 0.
+// Stores in each check column, ascending, the parity of its row over the columns before it. The row's last 1
+// stands in the column, whose own bit is 0 so far: so this is the parity of its row and the word, which is kept
+// as the row behind the rows too.
 fn solve_checks(work: &mut [u8], a: Areas)
-    requires { ⌜ Laid a (length (now work)) × RowsApart a (now work) ⌝ }
+    requires { ⌜ Laid a (length (now work)) × RowsEnd a (now work) × ChecksZero a (now work) × Packed (a .stride) (a .checks) (a .word) (a .gross) (now work) ⌝ }
     ensures { λ _. ⌜ Solved a (now (work .entry)) (now (work .exit)) ⌝ }
 {
     let k = a.checks;
@@ -46,8 +48,10 @@ fn solve_checks(work: &mut [u8], a: Areas)
     while c < a.gross {
         let row = lent::number_at(work, numbers + 2 * c);
         if row < k {
-            let odd = dense::parity(work, stride, row, a.gross, word);
-            work[word + c] = odd;
+            if dense::parity(work, stride, row, k) == 1 {
+                work[word + c] = 1;
+                dense::turn(work, stride, k, c);
+            }
         }
         c += 1;
     }
@@ -59,6 +63,7 @@ pub fn fill_word(work: &mut [u8], a: Areas)
     ensures { λ _. ⌜ WordFilled a (now (work .entry)) (now (work .exit)) ⌝ }
 {
     place_message(work, a);
+    dense::pack(work, a.stride, a.checks, a.word, a.gross);
     solve_checks(work, a);
 }
 

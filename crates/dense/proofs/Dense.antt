@@ -1,29 +1,29 @@
--- The bits of dense rows: a bit turned, a row added, a check's parity, and rows that stay as they were.
+-- The bits of dense rows: a bit turned, a row added, a word packed, the parity of two rows, and rows that stay as they were.
 -- Assumes nothing.
-use Prim.Native.Nat.{ℕ, zero, suc, _+_, _*_, _/_, _%_, _^_, _≤_, _<_}
+use Prim.Native.Nat.{ℕ, zero, suc, _+_, _*_, _/_, _%_, _^_, _≤_, _<_, min}
 use mathlib.Core.Path.{_≡_, refl, sym, ap, ap₂, _∙_}
 use mathlib.Core.Bool.{Bool, true, false, _&&_, xor, and-false}
-use mathlib.Core.List.{List, [], _∷_}
+use mathlib.Core.List.{List}
 use native.Mathlib.Nat.{suc-mul, mul-le-mul-right}
 use native.Mathlib.Numerals.{add-one}
 use native.Mathlib.Decide.{ℕ-discrete, decLt}
 use native.Mathlib.Omega.{arith}
 use lib.Arith.{digits-div, digits-mod}
-use lib.Bits.{bitXor, differ, xor-shr}
-use lib.Dec.{eqb}
+use lib.Bits.{bitAnd, bitXor, differ, and-step, and-shr, xor-self, xor-shr}
+use lib.Dec.{ltb, eqb}
 use lib.ListN.{length, getD, set}
 use lib.Seq.{getD-set-same, getD-set-other}
-use borrow.Author.Tests.{eq-eqb, ne-eqb, eqb-true}
-use Rattle.symbology.specs.Ranges.{tally, allBelow, those}
-use Rattle.symbology.specs.Rule.{bitSum, unmet}
+use borrow.Author.Tests.{eq-eqb, ne-eqb, eqb-true, lt-ltb, le-ltb}
+use Rattle.symbology.specs.Ranges.{tally, allBelow}
+use Rattle.symbology.specs.Matrix.{checkOf}
+use Rattle.symbology.specs.Rule.{unmet}
 use Rattle.symbology.proofs.Ranges.{below-true}
-use Rattle.laws.proofs.Ranges.{those-in, those-out}
 use Rattle.laws.proofs.Masks.{xor-digit}
-use Rattle.laws.proofs.Gf2.{bitSum-append, xor-none}
+use Rattle.laws.proofs.Gf2.{parity, parity-ext, parity-xor, parity-add, parity-short, dot, dot-ext, bitAt, unmet-dot, xor-none, none-xor, xor-same}
 use Rattle.lent.specs.declared.Areas.{Areas}
-use Rattle.lent.specs.Buffer.{ChangedIn, Laid}
-use Rattle.lent.proofs.Buffer.{changed-none, changed-set}
-use Rattle.dense.specs.Dense.{denseBits, Turned, RowAdded}
+use Rattle.lent.specs.Buffer.{part, ChangedIn, Cleared, Laid}
+use Rattle.lent.proofs.Buffer.{part-at, changed-none, changed-set, changed-then}
+use Rattle.dense.specs.Dense.{byteBit, denseBits, Turned, RowAdded, Packed, PackedIn}
 
 -- ---- places of rows
 
@@ -43,10 +43,6 @@ same-place s x i p q h g e = (
 )
 
 -- ---- bits of bytes
-
--- a bit of a byte, as a truth value
-abbrev byteBit : ℕ → ℕ → Bool
-byteBit v k = eqb (v / 2 ^ k % 2) 1
 
 differ-bit : (x y : ℕ) → x < 2 → y < 2 → eqb (differ x y) 1 ≡ xor (eqb x 1) (eqb y 1)
 unfolding xor
@@ -86,6 +82,11 @@ dense-same : (xs ys : List ℕ) (s i c : ℕ) → getD ys (i * s + c / 8) 0 ≡ 
 unfolding denseBits
 dense-same xs ys s i c e = ap (λ (v : ℕ). byteBit v (c % 8)) e
 
+-- A row stays where the bytes up to its end do.
+pub row-same : (xs ys : List ℕ) (s i c : ℕ) → c / 8 < s → ((q : ℕ) → q < i * s + s → getD ys q 0 ≡ getD xs q 0)
+    → denseBits ys s i c ≡ denseBits xs s i c
+row-same xs ys s i c h same = dense-same xs ys s i c (same (i * s + c / 8) (omega arith))
+
 -- Rows before a place stay where the bytes before it do.
 pub rows-same : (xs ys : List ℕ) (s k end : ℕ) → k * s ≤ end → ((q : ℕ) → q < end → getD ys q 0 ≡ getD xs q 0)
     → (i : ℕ) → i < k → (c : ℕ) → c / 8 < s → denseBits ys s i c ≡ denseBits xs s i c
@@ -94,6 +95,10 @@ rows-same xs ys s k end h same i l c g = dense-same xs ys s i c (same (i * s + c
 -- ---- rows of the work buffer
 
 module _ {a : Areas} {room : ℕ} (laid : Laid a room) where
+  -- the rows lie in front of the marks
+  pub rows-front : a .checks * a .stride ≤ a .marks
+  rows-front = omega (arith, laid .rows-end)
+
   -- a row lies in front of the marks
   pub row-inside : (i : ℕ) → i < a .checks → i * a .stride + a .stride ≤ a .marks
   row-inside i h = omega (arith, row-gap i (a .checks) (a .stride) h, laid .rows-end)
@@ -202,34 +207,187 @@ added-next {s} {i} {t} {b} {before} {after} r other h room =
       rest = λ p l. getD-set-other after (i * s + b) (i * s + p) v 0 (λ f. omega arith) ∙ r .rest p (omega arith);
     }
 
-pub added-all : {s i t : ℕ} {before after : List ℕ} → AddedTo s i t s before after → RowAdded s i t before after
+pub added-all : {s i t n : ℕ} {before after : List ℕ} → AddedTo s i t n before after → RowAdded s i t n before after
 unfolding denseBits
-added-all {s} {i} {t} {before} {after} r =
+added-all {s} {i} {t} {n} {before} {after} r =
     record {
       changed = r .changed;
       bits = λ x c h.
           elim (ℕ-discrete x i) [
             | yes e ↦
                 ap (λ (y : ℕ). denseBits after s y c) e
-                ∙ ap (λ (z : ℕ). byteBit z (c % 8)) (r .done (c / 8) h)
-                ∙ bit-xor (getD before (i * s + c / 8) 0) (getD before (t * s + c / 8) 0) (c % 8)
-                ∙ sym (ap₂ (λ (y : ℕ) (b : Bool). xor (denseBits before s y c) (b && denseBits before s t c)) e (eq-eqb x i e))
+                ∙ own c
+                ∙ sym (ap₂ (λ (y : ℕ) (b : Bool). xor (denseBits before s y c) (b && (ltb (c / 8) n && denseBits before s t c))) e (eq-eqb x i e))
             | no e ↦
                 dense-same before after s x c (other-row r x (c / 8) e h)
-                ∙ sym (ap (λ (b : Bool). xor (denseBits before s x c) (b && denseBits before s t c)) (ne-eqb x i e) ∙ xor-none (denseBits before s x c))
+                ∙ sym (ap (λ (b : Bool). xor (denseBits before s x c) (b && (ltb (c / 8) n && denseBits before s t c))) (ne-eqb x i e)
+                ∙ xor-none (denseBits before s x c))
           ];
     }
+  where
+    own : (c : ℕ) → denseBits after s i c ≡ xor (denseBits before s i c) (ltb (c / 8) n && denseBits before s t c)
+    own c =
+        elim (decLt (c / 8) n) [
+          | yes l ↦
+              ap (λ (z : ℕ). byteBit z (c % 8)) (r .done (c / 8) l)
+              ∙ bit-xor (getD before (i * s + c / 8) 0) (getD before (t * s + c / 8) 0) (c % 8)
+              ∙ sym (ap (λ (b : Bool). xor (denseBits before s i c) (b && denseBits before s t c)) (lt-ltb (c / 8) n l))
+          | no l ↦
+              ap (λ (z : ℕ). byteBit z (c % 8)) (r .rest (c / 8) (omega arith))
+              ∙ sym (ap (λ (b : Bool). xor (denseBits before s i c) (b && denseBits before s t c)) (le-ltb (c / 8) n (omega arith))
+              ∙ xor-none (denseBits before s i c))
+        ]
 
--- ---- a check's parity
+-- ---- a word packed
 
--- a column with a 1 adds its bit
-pub parity-in : (f : ℕ → Bool) (j : ℕ) (w : List ℕ) → f j ≡ true
-    → unmet (those (j + 1) f) w ≡ (unmet (those j f) w + getD w j 0 % 2) % 2
-unfolding unmet bitSum
-parity-in f j w e =
-    ap (λ (l : List ℕ). bitSum l w % 2) (ap (λ (k : ℕ). those k f) (add-one j) ∙ those-in j f e)
-    ∙ omega (arith, bitSum-append (those j f) (j ∷ []) w)
+-- of the word, the first j bits are stored as row k, whose other columns are 0
+pub record PackedTo (s k word j : ℕ) (before after : List ℕ) : Type 0 where
+  pub changed : ChangedIn (k * s) (k * s + s) before after
+  pub done : (c : ℕ) → c / 8 < s → denseBits after s k c ≡ (ltb c j && eqb (getD before (word + c) 0 % 2) 1)
 
--- a column with a 0 adds nothing
-pub parity-out : (f : ℕ → Bool) (j : ℕ) (w : List ℕ) → f j ≡ false → unmet (those (j + 1) f) w ≡ unmet (those j f) w
-parity-out f j w e = ap (λ (l : List ℕ). unmet l w) (ap (λ (k : ℕ). those k f) (add-one j) ∙ those-out j f e)
+-- the cleared row has no bit of the word
+pub packed-start : {s k word : ℕ} {before after : List ℕ} → Cleared (k * s) (k * s + s) before after → PackedTo s k word 0 after after
+unfolding denseBits
+packed-start {s} {k} {word} {before} {after} z =
+    record {
+      changed = changed-none (k * s) (k * s + s) after;
+      done = λ c h.
+          ap (λ (v : ℕ). byteBit v (c % 8)) (z .zero-in (k * s + c / 8) (omega arith) (omega arith))
+          ∙ no-bit (c % 8)
+          ∙ sym (ap (λ (b : Bool). b && eqb (getD after (word + c) 0 % 2) 1) (le-ltb c 0 (omega arith)));
+    }
+  where
+    no-bit : (e : ℕ) → byteBit 0 e ≡ false
+    no-bit e = ap (λ (v : ℕ). byteBit v e) (sym (xor-self 0)) ∙ bit-xor 0 0 e ∙ xor-same (byteBit 0 e)
+
+module _ {s k word j : ℕ} {before after : List ℕ} (p : PackedTo s k word j before after) where
+  -- the columns other than j are as before
+  packed-past : (b : Bool) (c : ℕ) → (c ≡ j → ⊥) → (ltb c j && b) ≡ (ltb c (j + 1) && b)
+  packed-past b c h =
+      elim (decLt c j) [
+        | yes l ↦ ap (λ (t : Bool). t && b) (lt-ltb c j l ∙ sym (lt-ltb c (j + 1) (omega arith)))
+        | no l ↦ ap (λ (t : Bool). t && b) (le-ltb c j (omega arith) ∙ sym (le-ltb c (j + 1) (omega arith)))
+      ]
+
+  -- bit j is 0
+  pub packed-zero : eqb (getD before (word + j) 0 % 2) 1 ≡ false → PackedTo s k word (j + 1) before after
+  packed-zero z =
+      record {
+        changed = p .changed;
+        done = λ c h.
+            elim (ℕ-discrete c j) [
+              | yes e ↦
+                  rw e (p .done j (omega arith) ∙ ap (λ (b : Bool). ltb j j && b) z ∙ and-false (ltb j j)
+                  ∙ sym (ap (λ (b : Bool). ltb j (j + 1) && b) z ∙ and-false (ltb j (j + 1))))
+              | no e ↦ p .done c h ∙ packed-past (eqb (getD before (word + c) 0 % 2) 1) c e
+            ];
+      }
+
+  -- bit j is 1, and the row's bit is turned
+  pub packed-one : {later : List ℕ} → eqb (getD before (word + j) 0 % 2) 1 ≡ true → Turned s k j after later → PackedTo s k word (j + 1) before later
+  packed-one {later} o t =
+      record {
+        changed = changed-then (p .changed) (t .changed) (omega arith) (omega arith);
+        done = λ c h.
+            t .bits k c h
+            ∙ ap₂ (λ (b z : Bool). xor b (z && eqb c j)) (p .done c h) (eq-eqb k k refl)
+            ∙ elim (ℕ-discrete c j) [
+              | yes e ↦
+                  rw e (ap₂ (λ (b z : Bool). xor (b && eqb (getD before (word + j) 0 % 2) 1) z) (le-ltb j j (omega arith)) (eq-eqb j j refl)
+                  ∙ none-xor true ∙ sym (ap₂ _&&_ (lt-ltb j (j + 1) (omega arith)) o))
+              | no e ↦
+                  ap (xor (ltb c j && eqb (getD before (word + c) 0 % 2) 1)) (ne-eqb c j e)
+                  ∙ xor-none (ltb c j && eqb (getD before (word + c) 0 % 2) 1)
+                  ∙ packed-past (eqb (getD before (word + c) 0 % 2) 1) c e
+            ];
+      }
+
+-- all bits are stored
+pub packed-all : {s k word n : ℕ} {before cleared after : List ℕ} → k * s + s ≤ word → Cleared (k * s) (k * s + s) before cleared
+    → PackedTo s k word n cleared after → PackedIn s k word n before after
+packed-all {s} {k} {word} {n} {after = after} h z p =
+    record {
+      changed = changed-then (z .changed) (p .changed) (omega arith) (omega arith);
+      packed = λ c g. p .done c g ∙ ap (λ (v : ℕ). ltb c n && eqb (v % 2) 1) (sym (p .changed .behind (word + c) (omega arith)));
+    }
+
+-- ---- the parity of two rows
+
+and-bit : (u v k : ℕ) → byteBit (bitAnd u v) k ≡ (byteBit u k && byteBit v k)
+and-bit u v k = ap (λ (z : ℕ). eqb (z % 2) 1) (and-shr u v k) ∙ digit-and (u / 2 ^ k) (v / 2 ^ k)
+  where
+    least : (x y : ℕ) → x < 2 → y < 2 → eqb (min x y) 1 ≡ (eqb x 1 && eqb y 1)
+    least zero zero h g = refl
+    least zero (suc zero) h g = refl
+    least zero (suc (suc y)) h g = absurd (omega arith)
+    least (suc zero) zero h g = refl
+    least (suc zero) (suc zero) h g = refl
+    least (suc zero) (suc (suc y)) h g = absurd (omega arith)
+    least (suc (suc x)) y h g = absurd (omega arith)
+
+    small : (x y : ℕ) → x < 2 → min x y < 2
+    small zero y h = omega arith
+    small (suc zero) zero h = omega arith
+    small (suc zero) (suc y) h = omega arith
+    small (suc (suc x)) y h = absurd (omega arith)
+
+    digit-and : (x y : ℕ) → eqb (bitAnd x y % 2) 1 ≡ (eqb (x % 2) 1 && eqb (y % 2) 1)
+    digit-and x y =
+        let low : bitAnd x y % 2 ≡ min (x % 2) (y % 2) = omega (arith, and-step x y, small (x % 2) (y % 2) (omega arith)) in
+        ap (λ (z : ℕ). eqb z 1) low ∙ least (x % 2) (y % 2) (omega arith) (omega arith)
+
+-- one more byte of both rows
+pub parity-byte : (s i k b : ℕ) (xs : List ℕ) (both : ℕ) → b < s → parity 8 (byteBit both) ≡ dot (b * 8) (denseBits xs s i) (denseBits xs s k)
+    → parity 8 (byteBit (bitXor both (bitAnd (getD xs (i * s + b) 0) (getD xs (k * s + b) 0)))) ≡ dot ((b + 1) * 8) (denseBits xs s i) (denseBits xs s k)
+unfolding denseBits
+parity-byte s i k b xs both h e =
+    let u : ℕ = getD xs (i * s + b) 0 in
+    let v : ℕ = getD xs (k * s + b) 0 in
+    let more : b * 8 + 8 ≡ (b + 1) * 8 = omega arith in
+    parity-ext 8 (byteBit (bitXor both (bitAnd u v))) (λ q. xor (byteBit both q) (byteBit u q && byteBit v q))
+    (λ q g. bit-xor both (bitAnd u v) q ∙ ap (xor (byteBit both q)) (and-bit u v q))
+    ∙ parity-xor 8 (byteBit both) (λ q. byteBit u q && byteBit v q)
+    ∙ ap₂ xor e (parity-ext 8 (λ q. byteBit u q && byteBit v q) (λ q. denseBits xs s i (b * 8 + q) && denseBits xs s k (b * 8 + q))
+    (λ q g. ap₂ _&&_ (there i q g) (there k q g)))
+    ∙ sym (parity-add (b * 8) 8 (λ c. denseBits xs s i c && denseBits xs s k c))
+    ∙ ap (λ (z : ℕ). dot z (denseBits xs s i) (denseBits xs s k)) more
+  where
+    there : (x q : ℕ) → q < 8 → byteBit (getD xs (x * s + b) 0) q ≡ denseBits xs s x (b * 8 + q)
+    there x q g =
+        let p : (b * 8 + q) / 8 ≡ b = omega arith in
+        let d : (b * 8 + q) % 8 ≡ q = omega arith in
+        sym (ap₂ (λ (y z : ℕ). byteBit (getD xs (x * s + y) 0) z) p d)
+
+-- one more bit of a byte
+pub odd-bit : (x k odd : ℕ) → odd ≡ tally (parity k (byteBit x)) → (odd + x / 2 ^ k % 2) % 2 ≡ tally (parity (k + 1) (byteBit x))
+unfolding parity xor
+odd-bit x k odd e =
+    ap (λ (v : ℕ). (v + x / 2 ^ k % 2) % 2) e
+    ∙ step (parity k (byteBit x)) (x / 2 ^ k % 2) (omega arith)
+    ∙ ap (λ (n : ℕ). tally (parity n (byteBit x))) (sym (add-one k))
+  where
+    step : (p : Bool) (y : ℕ) → y < 2 → (tally p + y) % 2 ≡ tally (xor p (eqb y 1))
+    step true zero h = refl
+    step true (suc zero) h = refl
+    step false zero h = refl
+    step false (suc zero) h = refl
+    step p (suc (suc y)) h = absurd (omega arith)
+
+-- Where row k is a word, the parity of row i and row k tells whether the check of row i is unmet in it.
+pub packed-unmet : (s i k word n : ℕ) (xs : List ℕ) → n ≤ s * 8 → Packed s k word n xs
+    → tally (dot (s * 8) (denseBits xs s i) (denseBits xs s k)) ≡ unmet (checkOf n (denseBits xs s) i) (part xs word n)
+unfolding checkOf
+packed-unmet s i k word n xs wide p =
+    ap tally (parity-short n (s * 8) (λ c. denseBits xs s i c && denseBits xs s k c) wide past
+    ∙ dot-ext n (denseBits xs s i) (denseBits xs s i) (denseBits xs s k) (bitAt (part xs word n)) (λ c l. refl) inside)
+    ∙ sym (unmet-dot n (denseBits xs s i) (part xs word n))
+  where
+    inside : (c : ℕ) → c < n → denseBits xs s k c ≡ bitAt (part xs word n) c
+    inside c h =
+        p c (in-row n s c wide h) ∙ ap (λ (b : Bool). b && eqb (getD xs (word + c) 0 % 2) 1) (lt-ltb c n h)
+        ∙ ap (λ (v : ℕ). eqb (v % 2) 1) (sym (part-at xs word n c h))
+
+    past : (c : ℕ) → n ≤ c → c < s * 8 → (denseBits xs s i c && denseBits xs s k c) ≡ false
+    past c h g =
+        ap (λ (b : Bool). denseBits xs s i c && b) (p c (omega arith) ∙ ap (λ (b : Bool). b && eqb (getD xs (word + c) 0 % 2) 1) (le-ltb c n h))
+        ∙ and-false (denseBits xs s i c)

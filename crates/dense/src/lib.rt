@@ -3,10 +3,9 @@
 ghost use Prim.Native.Nat.{_+_, _*_, _/_, _≤_, _<_};
 ghost use mathlib.Core.Path.{_≡_};
 ghost use lib.ListN.{length};
-ghost use Rattle.lent.specs.Buffer.{part};
-ghost use Rattle.dense.specs.Dense.{denseBits, Turned, RowAdded};
-ghost use Rattle.symbology.specs.Matrix.{checkOf};
-ghost use Rattle.symbology.specs.Rule.{unmet};
+ghost use Rattle.symbology.specs.Ranges.{tally};
+ghost use Rattle.laws.proofs.Gf2.{parity, dot};
+ghost use Rattle.dense.specs.Dense.{byteBit, denseBits, Turned, RowAdded, PackedIn};
 
 // The bit of a row in a column.
 pub fn bit(xs: &[u8], stride: usize, i: usize, j: usize) -> bool
@@ -25,32 +24,62 @@ pub fn turn(xs: &mut [u8], stride: usize, i: usize, j: usize)
     xs[at] = xs[at] ^ 1 << (j % 8);
 }
 
-// Adds row `from` to another row `to`.
-pub fn add_row(xs: &mut [u8], stride: usize, to: usize, from: usize)
-    requires { ⌜ (to ≡ from → ⊥) × (to * stride + stride ≤ length (now xs)) × (from * stride + stride ≤ length (now xs)) ⌝ }
-    ensures { λ _. ⌜ RowAdded stride to from (now (xs .entry)) (now (xs .exit)) ⌝ }
+// Adds the first n bytes of row `from` to another row `to`.
+pub fn add_row(xs: &mut [u8], stride: usize, to: usize, from: usize, n: usize)
+    requires { ⌜ (to ≡ from → ⊥) × (n ≤ stride) × (to * stride + stride ≤ length (now xs)) × (from * stride + stride ≤ length (now xs)) ⌝ }
+    ensures { λ _. ⌜ RowAdded stride to from n (now (xs .entry)) (now (xs .exit)) ⌝ }
 {
     let target = to * stride;
     let source = from * stride;
     let mut b = 0;
-    while b < stride {
+    while b < n {
         xs[target + b] = xs[target + b] ^ xs[source + b];
         b += 1;
     }
 }
 
-// Whether the check of row i is unmet (1) or met (0) in the word of n bits from `word` on.
-pub fn parity(xs: &[u8], stride: usize, i: usize, n: usize, word: usize) -> u8
-    requires { ⌜ (n ≤ stride * 8) × (i * stride + stride ≤ length (now xs)) × (word + n ≤ length (now xs)) ⌝ }
-    ensures { λ r. ⌜ r ≡ unmet (checkOf n (denseBits (now (xs .entry)) stride) i) (part (now (xs .entry)) word n) ⌝ }
+// Stores a word of n bits, a byte each from `word` on, as row k, with 0 in the columns past n.
+pub fn pack(xs: &mut [u8], stride: usize, k: usize, word: usize, n: usize)
+    requires { ⌜ (n ≤ stride * 8) × (k * stride + stride ≤ word) × (word + n ≤ length (now xs)) ⌝ }
+    ensures { λ _. ⌜ PackedIn stride k word n (now (xs .entry)) (now (xs .exit)) ⌝ }
 {
-    let mut odd = 0u8;
+    let row = k * stride;
+    lent::clear(xs, row, row + stride);
     let mut j = 0;
     while j < n {
-        if bit(xs, stride, i, j) {
-            odd = (odd + xs[word + j] % 2) % 2;
+        if xs[word + j] % 2 == 1 {
+            turn(xs, stride, k, j);
         }
         j += 1;
     }
+}
+
+// Whether a byte has an odd number of ones (1) or not (0).
+fn odd_ones(x: u8) -> u8
+    ensures { λ r. ⌜ r ≡ tally (parity 8 (byteBit x)) ⌝ }
+{
+    let mut odd = 0u8;
+    let mut k = 0usize;
+    while k < 8 {
+        odd = (odd + (x >> k) % 2) % 2;
+        k += 1;
+    }
     odd
+}
+
+// Whether the rows i and k have a 1 in an odd number of columns in common (1) or not (0). Where row k is a
+// word, that is whether the check of row i is unmet in it.
+pub fn parity(xs: &[u8], stride: usize, i: usize, k: usize) -> u8
+    requires { ⌜ (i * stride + stride ≤ length (now xs)) × (k * stride + stride ≤ length (now xs)) ⌝ }
+    ensures { λ r. ⌜ r ≡ tally (dot (stride * 8) (denseBits (now (xs .entry)) stride i) (denseBits (now (xs .entry)) stride k)) ⌝ }
+{
+    let row = i * stride;
+    let word = k * stride;
+    let mut both = 0u8;
+    let mut b = 0;
+    while b < stride {
+        both = both ^ xs[row + b] & xs[word + b];
+        b += 1;
+    }
+    odd_ones(both)
 }

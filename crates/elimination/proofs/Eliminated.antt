@@ -2,15 +2,15 @@
 -- and of a check column.
 -- Assumes nothing.
 use Prim.Native.Nat.{ℕ, suc, _+_, _*_, _≤_, _<_}
-use mathlib.Core.Path.{_≡_, refl, sym, ap, _∙_, subst⁻¹}
-use mathlib.Core.Bool.{Bool, true, false, not, _&&_, _||_, xor}
+use mathlib.Core.Path.{_≡_, refl, sym, ap, ap₂, _∙_, subst⁻¹}
+use mathlib.Core.Bool.{Bool, true, false, not, _&&_, _||_, xor, and-false}
 use mathlib.Core.List.{List}
-use native.Mathlib.Decide.{ℕ-discrete}
+use native.Mathlib.Decide.{ℕ-discrete, decLt}
 use native.Mathlib.Omega.{arith}
 use lib.Dec.{ltb, eqb}
 use lib.ListN.{length, getD, set}
 use lib.Seq.{getD-set-same, getD-set-other}
-use borrow.Author.Tests.{eq-eqb, ne-eqb, lt-ltb, le-ltb, not-false}
+use borrow.Author.Tests.{eq-eqb, ne-eqb, lt-ltb, le-ltb, not-false, not-true}
 use Rattle.symbology.specs.Ranges.{lowest}
 use Rattle.symbology.specs.Matrix.{BitMatrix}
 use Rattle.symbology.specs.Codeword.{isCheckColumn}
@@ -21,8 +21,8 @@ use Rattle.laws.proofs.Elimination.{Inv, start, inv-ext, clear-message, clear-s
 use Rattle.lent.specs.declared.Areas.{Areas}
 use Rattle.lent.specs.Buffer.{storedNumber, ChangedInBoth, Cleared, Laid}
 use Rattle.lent.proofs.Buffer.{number-same, stored-there, stored-other, changed-none, changed-set, changed-stored, both-none, both-front, both-back}
-use Rattle.dense.proofs.Dense.{marks-inside, rows-kept}
-use Rattle.elimination.specs.Reduced.{isFree, isUsed, rowOf, ColumnCleared, EliminatedFrom, Eliminated}
+use Rattle.dense.proofs.Dense.{marks-inside, rows-front, rows-kept}
+use Rattle.elimination.specs.Reduced.{isUnmarked, isFree, isUsed, rowOf, MarkedBefore, EndsAt, isAdded, ColumnCleared, EliminatedFrom, Eliminated}
 use Rattle.elimination.proofs.Cleared.{rows}
 
 -- whether a column is a check column
@@ -52,7 +52,7 @@ eliminating-start {a} {before} {after} l c =
           (omega (arith, l .marks-end, l .word-end));
       whole = record {
         reduced = start (a .checks) (a .gross) m (isCheck a m) (rows a after) (isUsed a after) (rowOf a after)
-            (rows-kept l before after (a .marks) (l .rows-end) (c .changed .front))
+            (rows-kept l before after (a .marks) (rows-front l) (c .changed .front))
             (λ i h. ap (λ (v : ℕ). not (eqb v 0)) (c .zero-in (a .marks + i) (omega arith) (omega arith)));
         judged = λ x h g. absurd (omega arith);
         most = λ x h g. absurd (omega arith);
@@ -86,8 +86,11 @@ module _ {a : Areas} {j pivot : ℕ} {before work : List ℕ} (l : Laid a (lengt
   noted-mark : (i : ℕ) → i < a .checks → getD noted (a .marks + i) 0 ≡ getD work (a .marks + i) 0
   noted-mark i h = early (a .marks + i) (omega (arith, l .marks-end, l .word-end))
 
+  noted-unmarked : (i : ℕ) → i < a .checks → isUnmarked a noted i ≡ isUnmarked a work i
+  noted-unmarked i h = ap (λ (v : ℕ). eqb v 0) (noted-mark i h)
+
   noted-used : (i : ℕ) → i < a .checks → isUsed a noted i ≡ isUsed a work i
-  noted-used i h = ap (λ (v : ℕ). not (eqb v 0)) (noted-mark i h)
+  noted-used i h = ap not (noted-unmarked i h)
 
   -- the numbers of later columns are as before
   noted-later : (c : ℕ) → j < c → rowOf a noted c ≡ rowOf a work c
@@ -123,6 +126,11 @@ module _ {a : Areas} {j pivot : ℕ} {before work : List ℕ} (l : Laid a (lengt
 
   noted-marks : (i : ℕ) → i < a .checks → getD noted (a .marks + i) 0 ≤ 1
   noted-marks i h = omega (arith, noted-mark i h, e .whole .marks i h)
+
+  -- a row that had a mark has one
+  pub noted-before : {first : ℕ} → first ≤ a .checks → MarkedBefore a work first
+      → MarkedBefore a (storedNumber work (a .numbers + 2 * j) pivot) first
+  noted-before h m i g = noted-unmarked i (omega arith) ∙ m i g
 
   -- ---- no row is free
 
@@ -160,11 +168,7 @@ module _ {a : Areas} {j pivot : ℕ} {before work : List ℕ} (l : Laid a (lengt
 
   -- ---- a row is free
 
-  module _ {later : List ℕ} (less : pivot < a .checks) (d : ColumnCleared a pivot j (storedNumber work (a .numbers + 2 * j) pivot) later) where
-    -- the buffer with the row marked
-    abbrev marked : List ℕ
-    marked = set later (a .marks + pivot) 1
-
+  module _ (less : pivot < a .checks) where
     -- the row found has no mark and has a 1 in the column
     free : isFree a work j pivot ≡ true
     free = subst⁻¹ (λ (x : ℕ). isFree a work j x ≡ true) found (lowest-holds (isFree a work j) (a .checks) 0 (omega arith))
@@ -180,61 +184,101 @@ module _ {a : Areas} {j pivot : ℕ} {before work : List ℕ} (l : Laid a (lengt
         pivot-check (a .checks) (a .gross) m (isCheck a m) (rows a noted) (isUsed a noted) (rowOf a noted)
         (check-laws (a .checks) (a .gross) m) j (omega (arith, e .left)) noted-inv pivot less unused one
 
-    -- the mark stands behind the rows
-    marked-bits : (i : ℕ) → i < a .checks → (c : ℕ) → c < a .gross
-        → rows a marked i c ≡ xor (rows a noted i c) ((rows a noted i j && not (eqb i pivot)) && rows a noted pivot c)
-    marked-bits i h c g =
-        rows-kept l later marked (a .marks) (l .rows-end) (λ q b. getD-set-other later (a .marks + pivot) q 1 0 (λ f. omega arith)) i h c g
-        ∙ d .bits i h c g
+    -- the pivot row is added to the later rows that are free, and no earlier row is
+    own-not : isAdded a noted pivot j pivot ≡ false
+    own-not = ap (λ (b : Bool). b && isFree a noted j pivot) (le-ltb pivot pivot (omega arith))
 
-    -- behind the rows only the mark is changed
-    beyond : (i : ℕ) → a .marks ≤ i → (i ≡ a .marks + pivot → ⊥) → getD marked i 0 ≡ getD noted i 0
-    beyond i h other = getD-set-other later (a .marks + pivot) i 1 0 other ∙ d .changed .behind i (omega (arith, l .rows-end))
+    used-not : (i : ℕ) → i < a .checks → isUsed a noted i ≡ true → isAdded a noted pivot j i ≡ false
+    used-not i h v =
+        ap (λ (b : Bool). ltb pivot i && (b && rows a noted i j)) (not-true (isUnmarked a noted i) v) ∙ and-false (ltb pivot i)
 
-    -- the mark of the pivot row
-    mark : getD marked (a .marks + pivot) 0 ≡ 1
-    mark = getD-set-same later (a .marks + pivot) 1 0 (omega (arith, marks-inside l, d .changed .long, noted-changed .long))
-
-    marked-used : (i : ℕ) → i < a .checks → isUsed a marked i ≡ (eqb i pivot || isUsed a noted i)
-    marked-used i h =
-        elim (ℕ-discrete i pivot) [
-          | yes same ↦
-              rw same
-              (ap (λ (v : ℕ). not (eqb v 0)) mark ∙ sym (ap (λ (b : Bool). b || isUsed a noted pivot) (eq-eqb pivot pivot refl)))
-          | no other ↦
-              ap (λ (v : ℕ). not (eqb v 0)) (beyond (a .marks + i) (omega arith) (λ f. other (omega arith)))
-              ∙ sym (ap (λ (b : Bool). b || isUsed a noted i) (ne-eqb i pivot other))
+    free-is : (i : ℕ) → i < a .checks → isUsed a noted i ≡ false → (i ≡ pivot → ⊥) → isAdded a noted pivot j i ≡ rows a noted i j
+    free-is i h v other =
+        let unmarked : isUnmarked a noted i ≡ true = not-false (isUnmarked a noted i) v in
+        elim (decLt pivot i) [
+          | yes late ↦ ap₂ (λ (b z : Bool). b && (z && rows a noted i j)) (lt-ltb pivot i late) unmarked
+          | no early ↦
+              let before-it : isFree a work j i ≡ false = lowest-before (isFree a work j) (a .checks) 0 i (omega arith) (omega arith) in
+              ap (λ (b : Bool). b && isFree a noted j i) (le-ltb pivot i (omega arith))
+              ∙ sym before-it
+              ∙ ap (λ (b : Bool). b && rows a work i j) (sym (noted-unmarked i h) ∙ unmarked)
+              ∙ sym (noted-bits i h j (omega (arith, e .left)))
         ]
 
-    -- the numbers stay
-    marked-row : (c : ℕ) → rowOf a marked c ≡ rowOf a noted c
-    marked-row c =
-        let behind : a .marks + pivot < a .numbers = omega (arith, l .marks-end, l .word-end) in
-        number-same noted marked (a .numbers + 2 * c)
-        (beyond (a .numbers + 2 * c) (omega arith) (λ f. omega arith)) (beyond (a .numbers + 2 * c + 1) (omega arith) (λ f. omega arith))
+    -- the pivot row is 0 behind the column
+    pub pivot-ends : EndsAt a (storedNumber work (a .numbers + 2 * j) pivot) pivot j
+    pivot-ends c h g = noted-inv .none pivot less unused c (omega arith) g
 
-    pub check-step : Eliminating a j before (set later (a .marks + pivot) 1)
-    check-step =
-        record {
-          left = omega (arith, e .left);
-          changed =
-              both-front (both-front noted-changed (d .changed) (omega (arith, l .rows-end)) (omega (arith, l .marks-end, l .word-end)))
-              (changed-set (changed-none (a .marks) (a .marks + a .checks) later) (a .marks + pivot) 1 (omega arith) (omega arith))
-              (omega arith) (omega (arith, l .marks-end, l .word-end));
-          whole = record {
-            reduced = pivot-step (a .checks) (a .gross) m (isCheck a m) (rows a noted) (isUsed a noted) (rowOf a noted)
-                j (omega (arith, e .left)) noted-inv check-column pivot less unused one
-                (rows a marked) (isUsed a marked) (rowOf a marked) marked-bits marked-used (λ c h g. marked-row c) (marked-row j ∙ noted-row);
-            judged = λ c h g.
-                elim (ℕ-discrete c j) [
-                  | yes same ↦ rw same (lt-ltb (rowOf a marked j) (a .checks) (omega (arith, marked-row j, noted-row)) ∙ sym check-column)
-                  | no other ↦ ap (λ (x : ℕ). ltb x (a .checks)) (marked-row c) ∙ noted-judged c (omega arith) g
-                ];
-            most = λ c h g. omega (arith, marked-row c, noted-most c h g);
-            marks = λ i h.
-                elim (ℕ-discrete i pivot) [
-                  | yes same ↦ rw same (omega (arith, mark))
-                  | no other ↦ omega (arith, beyond (a .marks + i) (omega arith) (λ f. other (omega arith)), noted-marks i h)
-                ];
-          };
-        }
+    module _ {later : List ℕ} (d : ColumnCleared a pivot j (storedNumber work (a .numbers + 2 * j) pivot) later) where
+      -- the buffer with the row marked
+      abbrev marked : List ℕ
+      marked = set later (a .marks + pivot) 1
+
+      -- the mark stands behind the rows
+      marked-bits : (i : ℕ) → i < a .checks → (c : ℕ) → c < a .gross
+          → rows a marked i c ≡ xor (rows a noted i c) (isAdded a noted pivot j i && rows a noted pivot c)
+      marked-bits i h c g =
+          rows-kept l later marked (a .marks) (rows-front l) (λ q b. getD-set-other later (a .marks + pivot) q 1 0 (λ f. omega arith)) i h c g
+          ∙ d .bits i h c g
+
+      -- behind the rows only the mark is changed
+      beyond : (i : ℕ) → a .marks ≤ i → (i ≡ a .marks + pivot → ⊥) → getD marked i 0 ≡ getD noted i 0
+      beyond i h other = getD-set-other later (a .marks + pivot) i 1 0 other ∙ d .changed .behind i (omega (arith, rows-front l))
+
+      -- the mark of the pivot row
+      mark : getD marked (a .marks + pivot) 0 ≡ 1
+      mark = getD-set-same later (a .marks + pivot) 1 0 (omega (arith, marks-inside l, d .changed .long, noted-changed .long))
+
+      marked-used : (i : ℕ) → i < a .checks → isUsed a marked i ≡ (eqb i pivot || isUsed a noted i)
+      marked-used i h =
+          elim (ℕ-discrete i pivot) [
+            | yes same ↦
+                rw same
+                (ap (λ (v : ℕ). not (eqb v 0)) mark ∙ sym (ap (λ (b : Bool). b || isUsed a noted pivot) (eq-eqb pivot pivot refl)))
+            | no other ↦
+                ap (λ (v : ℕ). not (eqb v 0)) (beyond (a .marks + i) (omega arith) (λ f. other (omega arith)))
+                ∙ sym (ap (λ (b : Bool). b || isUsed a noted i) (ne-eqb i pivot other))
+          ]
+
+      -- the numbers stay
+      marked-row : (c : ℕ) → rowOf a marked c ≡ rowOf a noted c
+      marked-row c =
+          let behind : a .marks + pivot < a .numbers = omega (arith, l .marks-end, l .word-end) in
+          number-same noted marked (a .numbers + 2 * c)
+          (beyond (a .numbers + 2 * c) (omega arith) (λ f. omega arith)) (beyond (a .numbers + 2 * c + 1) (omega arith) (λ f. omega arith))
+
+      pub check-step : Eliminating a j before (set later (a .marks + pivot) 1)
+      check-step =
+          record {
+            left = omega (arith, e .left);
+            changed =
+                both-front (both-front noted-changed (d .changed) (omega (arith, rows-front l)) (omega (arith, l .marks-end, l .word-end)))
+                (changed-set (changed-none (a .marks) (a .marks + a .checks) later) (a .marks + pivot) 1 (omega arith) (omega arith))
+                (omega arith) (omega (arith, l .marks-end, l .word-end));
+            whole = record {
+              reduced = pivot-step (a .checks) (a .gross) m (isCheck a m) (rows a noted) (isUsed a noted) (rowOf a noted)
+                  j (omega (arith, e .left)) noted-inv check-column pivot less unused one
+                  (isAdded a noted pivot j) own-not used-not free-is (rows a marked) (isUsed a marked) (rowOf a marked) marked-bits marked-used (λ c h g. marked-row c) (marked-row j ∙ noted-row);
+              judged = λ c h g.
+                  elim (ℕ-discrete c j) [
+                    | yes same ↦ rw same (lt-ltb (rowOf a marked j) (a .checks) (omega (arith, marked-row j, noted-row)) ∙ sym check-column)
+                    | no other ↦ ap (λ (x : ℕ). ltb x (a .checks)) (marked-row c) ∙ noted-judged c (omega arith) g
+                  ];
+              most = λ c h g. omega (arith, marked-row c, noted-most c h g);
+              marks = λ i h.
+                  elim (ℕ-discrete i pivot) [
+                    | yes same ↦ rw same (omega (arith, mark))
+                    | no other ↦ omega (arith, beyond (a .marks + i) (omega arith) (λ f. other (omega arith)), noted-marks i h)
+                  ];
+            };
+          }
+
+      -- a row that had a mark has one
+      pub marked-before : {first : ℕ} → first ≤ a .checks → MarkedBefore a work first → MarkedBefore a (set later (a .marks + pivot) 1) first
+      marked-before h m i g =
+          elim (ℕ-discrete i pivot) [
+            | yes same ↦ rw same (ap (λ (v : ℕ). eqb v 0) mark)
+            | no other ↦
+                ap (λ (v : ℕ). eqb v 0) (beyond (a .marks + i) (omega arith) (λ f. other (omega arith)))
+                ∙ noted-unmarked i (omega arith) ∙ m i g
+          ]

@@ -2,7 +2,7 @@
 -- Assumes nothing.
 use Prim.Native.Nat.{ℕ, _+_, _*_, _≤_, _<_}
 use mathlib.Core.Path.{_≡_}
-use mathlib.Core.Bool.{Bool, not, _&&_, xor}
+use mathlib.Core.Bool.{Bool, false, not, _&&_, xor}
 use mathlib.Core.List.{List}
 use lib.Dec.{ltb, eqb}
 use lib.ListN.{getD}
@@ -13,19 +13,35 @@ use Rattle.lent.specs.declared.Areas.{Areas}
 use Rattle.lent.specs.Buffer.{numberAt, ChangedIn, ChangedInBoth}
 use Rattle.dense.specs.Dense.{denseBits}
 
+-- row i has no mark
+abbrev pub isUnmarked : Areas → List ℕ → ℕ → Bool
+isUnmarked a work i = eqb (getD work (a .marks + i) 0) 0
+
 -- row i has no mark and has a 1 in column j
 abbrev pub isFree : Areas → List ℕ → ℕ → ℕ → Bool
-isFree a work j i = eqb (getD work (a .marks + i) 0) 0 && denseBits work (a .stride) i j
+isFree a work j i = isUnmarked a work i && denseBits work (a .stride) i j
 
 -- row i is the pivot row of a check column
 abbrev pub isUsed : Areas → List ℕ → ℕ → Bool
-isUsed a work i = not (eqb (getD work (a .marks + i) 0) 0)
+isUsed a work i = not (isUnmarked a work i)
 
 -- the pivot row of column c, or the number of rows
 abbrev pub rowOf : Areas → List ℕ → ℕ → ℕ
 rowOf a work c = numberAt work (a .numbers + 2 * c)
 
--- the row `pivot` is added to every other row that has a 1 in column j
+-- the rows before `end` have marks
+abbrev pub MarkedBefore : Areas → List ℕ → ℕ → Type 0
+MarkedBefore a work end = (i : ℕ) → i < end → isUnmarked a work i ≡ false
+
+-- row i is 0 behind column j
+abbrev pub EndsAt : Areas → List ℕ → ℕ → ℕ → Type 0
+EndsAt a work i j = (c : ℕ) → j < c → c < a .gross → denseBits work (a .stride) i c ≡ false
+
+-- the row `pivot` is added to row i: a later row without a mark that has a 1 in column j
+abbrev pub isAdded : Areas → List ℕ → ℕ → ℕ → ℕ → Bool
+isAdded a work pivot j i = ltb pivot i && isFree a work j i
+
+-- the row `pivot` is added to the rows that it is to be added to
 pub record ColumnCleared (a : Areas) (pivot j : ℕ) (before after : List ℕ) : Type 0 where
   pub changed : ChangedIn 0 (a .checks * a .stride) before after
   pub bits : (i : ℕ)
@@ -33,8 +49,7 @@ pub record ColumnCleared (a : Areas) (pivot j : ℕ) (before after : List ℕ) :
       → (c : ℕ)
       → c < a .gross
       → denseBits after (a .stride) i c
-      ≡ xor (denseBits before (a .stride) i c)
-      ((denseBits before (a .stride) i j && not (eqb i pivot)) && denseBits before (a .stride) pivot c)
+      ≡ xor (denseBits before (a .stride) i c) (isAdded a before pivot j i && denseBits before (a .stride) pivot c)
 
 -- The columns from j on of the matrix m are eliminated in the buffer. A column from j on has a pivot row exactly where it is a check
 -- column of m, and the number of rows where it is none; a mark is 1 for a pivot row and 0 else. The papers leave open which row is the

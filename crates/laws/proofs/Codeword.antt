@@ -267,12 +267,12 @@ module _ (k n : ℕ) (a : BitMatrix) (m : List ℕ) (bits : AllBits m) where
 
 -- ---- from elimination
 
--- Elimination to the end gives the codeword: the message's bits in the message columns, and in each check column the sum of the message bits
+-- Elimination to the end gives the codeword: the message's bits in the message columns, and in each check column the sum of the earlier bits
 -- in the ones of its row.
 pub codeword-filled : (k n : ℕ) (a : BitMatrix) (m : List ℕ) (r : BitMatrix) (used : ℕ → Bool) (row : ℕ → ℕ)
     → Inv k n a (isCheckColumn k n a) r used row 0 → (w : List ℕ) → length w ≡ n → AllBits w
     → ((c : ℕ) → c < n → isCheckColumn k n a c ≡ false → getD w c 0 ≡ getD m (length (those c (λ j. not (isCheckColumn k n a j)))) 0)
-    → ((c : ℕ) → c < n → isCheckColumn k n a c ≡ true → bitAt w c ≡ dot n (r (row c)) (λ j. not (isCheckColumn k n a j) && bitAt w j))
+    → ((c : ℕ) → c < n → isCheckColumn k n a c ≡ true → bitAt w c ≡ dot c (r (row c)) (bitAt w))
     → codeword k n a m ≡ w
 unfolding messageColumns
 codeword-filled k n a m r used row inv w wide are-bits message check = codeword-found (record {

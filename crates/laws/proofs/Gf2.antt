@@ -6,7 +6,7 @@ use mathlib.Core.Path.{_≡_, refl, sym, ap, ap₂, _∙_, subst⁻¹}
 use mathlib.Core.Logic.{_↔_}
 use mathlib.Core.Bool.{Bool, true, false, cond, not, _&&_, xor, and-true, and-false}
 use mathlib.Core.List.{List, [], _∷_, _++_}
-use native.Mathlib.Nat.{add-zero}
+use native.Mathlib.Nat.{add-zero, add-suc}
 use native.Mathlib.Omega.{arith}
 use native.Mathlib.Decide.{ℕ-discrete}
 use lib.Dec.{eqb}
@@ -41,6 +41,17 @@ xor-comm true true = refl
 xor-comm true false = refl
 xor-comm false true = refl
 xor-comm false false = refl
+
+xor-assoc : (a b c : Bool) → xor (xor a b) c ≡ xor a (xor b c)
+unfolding xor
+xor-assoc true true true = refl
+xor-assoc true true false = refl
+xor-assoc true false true = refl
+xor-assoc true false false = refl
+xor-assoc false true true = refl
+xor-assoc false true false = refl
+xor-assoc false false true = refl
+xor-assoc false false false = refl
 
 -- adding a bit twice takes it away
 pub xor-back : (a b : Bool) → xor a (xor b a) ≡ b
@@ -118,6 +129,25 @@ pub parity-xor : (n : ℕ) (f g : ℕ → Bool) → parity n (λ i. xor (f i) (g
 unfolding parity
 parity-xor zero f g = sym (xor-none false)
 parity-xor (suc n) f g = ap (λ (b : Bool). xor b (xor (f n) (g n))) (parity-xor n f g) ∙ xor-four (parity n f) (parity n g) (f n) (g n)
+
+-- the parity of two stretches
+pub parity-add : (m n : ℕ) (f : ℕ → Bool) → parity (m + n) f ≡ xor (parity m f) (parity n (λ i. f (m + i)))
+unfolding parity
+parity-add m zero f = ap (λ (z : ℕ). parity z f) (add-zero m) ∙ sym (xor-none (parity m f))
+parity-add m (suc n) f =
+    ap (λ (z : ℕ). parity z f) (add-suc m n)
+    ∙ ap (λ (b : Bool). xor b (f (m + n))) (parity-add m n f)
+    ∙ xor-assoc (parity m f) (parity n (λ i. f (m + i))) (f (m + n))
+
+-- the terms from n on are 0
+pub parity-short : (n m : ℕ) (f : ℕ → Bool) → n ≤ m → ((i : ℕ) → n ≤ i → i < m → f i ≡ false) → parity m f ≡ parity n f
+unfolding parity
+parity-short n zero f h z = let e : n ≡ 0 = omega arith in ap (λ (k : ℕ). parity k f) (sym e)
+parity-short n (suc m) f h z =
+    elim (ℕ-discrete n (suc m)) [
+      | yes e ↦ ap (λ (k : ℕ). parity k f) (sym e)
+      | no e ↦ ap₂ xor (parity-short n m f (omega arith) (λ i g l. z i g (omega arith))) (z m (omega arith) (omega arith)) ∙ xor-none (parity n f)
+    ]
 
 pub parity-scale : (n : ℕ) (b : Bool) (f : ℕ → Bool) → parity n (λ i. b && f i) ≡ (b && parity n f)
 unfolding parity

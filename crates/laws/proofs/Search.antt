@@ -1,8 +1,8 @@
 -- A search for the lowest number as a loop makes it: the search among n numbers is that among those from k on, where none before k
 -- was found.
 -- Assumes nothing.
-use Prim.Native.Nat.{ℕ, suc, _+_, _-_, _≤_, _<_}
-use mathlib.Core.Path.{_≡_, sym, ap, _∙_}
+use Prim.Native.Nat.{ℕ, zero, suc, _+_, _-_, _≤_, _<_}
+use mathlib.Core.Path.{_≡_, sym, ap, _∙_, subst}
 use mathlib.Core.Bool.{Bool, true, false}
 use native.Mathlib.Numerals.{add-one}
 use native.Mathlib.Omega.{arith}
@@ -41,3 +41,9 @@ module _ (f : ℕ → Bool) (n k : ℕ) (s : SearchFrom f n k) where
   search-none h =
       let nothing : n - k ≡ 0 = omega arith in
       s .same ∙ ap (λ (m : ℕ). lowest f m k) nothing
+
+-- a search that starts at k, where the test fails at every number before
+pub search-at : (f : ℕ → Bool) (n k : ℕ) → k ≤ n → ((i : ℕ) → i < k → f i ≡ false) → SearchFrom f n k
+search-at f n zero h none = search-start f n
+search-at f n (suc k) h none =
+    subst (SearchFrom f n) (add-one k) (search-next f n k (search-at f n k (omega arith) (λ i g. none i (omega arith))) h (none k (omega arith)))

@@ -1,8 +1,8 @@
 -- A matrix of k rows has at most k check columns: elimination gives each a row of its own.
 -- Assumes nothing.
 use Prim.Native.Nat.{ℕ, zero, suc, _+_, _≤_, _<_}
-use mathlib.Core.Path.{_≡_, refl, sym, ap, _∙_, subst⁻¹}
-use mathlib.Core.Bool.{Bool, true, false, cond, not, _&&_, _||_, xor}
+use mathlib.Core.Path.{_≡_, refl, sym, ap, ap₂, _∙_, subst⁻¹}
+use mathlib.Core.Bool.{Bool, true, false, cond, not, _&&_, _||_, xor, and-true, and-false}
 use native.Mathlib.Omega.{arith}
 use native.Mathlib.Decide.{decLt}
 use lib.Dec.{eqb}
@@ -36,11 +36,14 @@ module _ (k n : ℕ) (a : BitMatrix) (chk : ℕ → Bool) (law : CheckColumnLaws
             let u : used t ≡ false = not-true (used t) (and-left (not (used t)) (r t j) o) in
             let p : r t j ≡ true = and-right (not (used t)) (r t j) o in
             record {
-              rows = λ i c. xor (r i c) ((r i j && not (eqb i t)) && r t c);
+              rows = λ i c. xor (r i c) (added i && r t c);
               used = λ i. eqb i t || used i;
               row = λ c. cond (eqb c j) t (row c);
               inv = pivot-step k n a chk r used row j h (s .inv) (pivot-check k n a chk r used row law j h (s .inv) t l u p) t l u p
-                  (λ i c. xor (r i c) ((r i j && not (eqb i t)) && r t c)) (λ i. eqb i t || used i) (λ c. cond (eqb c j) t (row c))
+                  added (ap (λ (b : Bool). test t && not b) (eq-eqb t t refl) ∙ and-false (test t))
+                  (λ i g v. ap (λ (b : Bool). (not b && r i j) && not (eqb i t)) v)
+                  (λ i g v e. ap₂ (λ (b z : Bool). (not b && r i j) && not z) v (ne-eqb i t e) ∙ and-true (r i j))
+                  (λ i c. xor (r i c) (added i && r t c)) (λ i. eqb i t || used i) (λ c. cond (eqb c j) t (row c))
                   (λ i g c q. refl) (λ i g. refl)
                   (λ c g q. ap (λ (b : Bool). cond b t (row c)) (ne-eqb c j (λ e. omega arith)))
                   (ap (λ (b : Bool). cond b t (row j)) (eq-eqb j j refl));
@@ -70,6 +73,9 @@ module _ (k n : ℕ) (a : BitMatrix) (chk : ℕ → Bool) (law : CheckColumnLaws
 
       t : ℕ
       t = lowest test k 0
+
+      added : ℕ → Bool
+      added i = test i && not (eqb i t)
 
   reduce-from : (m j : ℕ) → j + m ≡ n → Reduced k n a chk j
   reduce-from zero j e =

@@ -1,6 +1,6 @@
 -- The stages of error correction, put together: what each does to the work buffer, in terms of A.
 -- Assumes nothing.
-use Prim.Native.Nat.{ℕ, _≤_}
+use Prim.Native.Nat.{ℕ, _*_, _≤_}
 use mathlib.Core.Path.{_≡_, ap, ap₂, _∙_, subst⁻¹}
 use mathlib.Core.Bool.{Bool}
 use mathlib.Core.List.{List}
@@ -27,7 +27,7 @@ use Rattle.ldpc.specs.Stages.{RowsBuilt, Encoded, MendedFor, MessageFor}
 -- the rows built are those of A
 pub rows-built : {s : Sizes} {wc : ℕ} {before after : List ℕ} → Built (areasOf s) (s .block) wc (s .wr) before after → RowsBuilt s before after
 unfolding areasOf
-rows-built b = record { changed = b .changed; holds = b .bits }
+rows-built b = record { changed = both-wider (b .changed) (omega arith) (omega arith); holds = b .bits }
 
 module _ (s : Sizes) {before : List ℕ} (laid : Laid (areasOf s) (length before)) where
   -- ---- areas that stay
@@ -99,15 +99,19 @@ module _ (s : Sizes) {before : List ℕ} (laid : Laid (areasOf s) (length before
       checks-same (s .checks) (s .gross) (denseBits built (areasOf s .stride)) (matrixFor s) (b .holds) in
       record {
         changed =
-            both-front (both-wider (b .changed) (omega (arith, laid .marks-end)) (omega arith)) (m .changed) (omega arith)
-            (omega (arith, laid .word-end, laid .numbers-end));
+            both-then (both-wider (b .changed) (omega (arith, laid .marks-end)) (omega arith))
+            record {
+              long = m .changed .long;
+              between = m .changed .between;
+              behind = λ i h. m .changed .behind i (omega (arith, laid .numbers-end));
+            };
         word-is = m .word-is ∙ ap₂ lastWord checks word;
         repairs-are = m .repairs-are ∙ ap length (ap₂ repairsOf checks word);
         first-is = m .first-is ∙ ap₂ unmetCount checks word;
         bounded = m .bounded;
         stuck-is = m .stuck-is ∙ ap₂ stuck checks word;
         holds = λ i h j g.
-            rows-kept laid built after (areasOf s .marks) (laid .rows-end) (m .changed .front) i h j g ∙ b .holds i h j g;
+            rows-kept laid built after (areasOf s .checks * areasOf s .stride) (omega arith) (m .changed .front) i h j g ∙ b .holds i h j g;
       }
 
   pub message-for : {reduced after : List ℕ} {spare : Bool} → HoldsA s before

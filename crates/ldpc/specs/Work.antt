@@ -10,11 +10,11 @@ use Rattle.lent.specs.declared.Areas.{Areas}
 use Rattle.lent.specs.Buffer.{part}
 use Rattle.dense.specs.Dense.{denseBits}
 
--- One area lies behind the other: rows, marks, C bits, of which the first are the word, numbers, net bits.
+-- One area lies behind the other: rows, one more row, marks, C bits, of which the first are the word, numbers, net bits.
 unfoldable pub areasOf : Sizes → Areas
 areasOf s =
     let stride = rowBytes (s .gross) in
-    let marks = s .checks * stride in
+    let marks = s .checks * stride + stride in
     let word = marks + s .checks in
     let numbers = word + s .capacity in
     record {

@@ -17,7 +17,7 @@ pub fn areas(s: Sizes) -> Areas
     ensures { λ r. ⌜ r ≡ areasOf s ⌝ }
 {
     let stride = (s.gross + 7) / 8;
-    let marks = s.checks * stride;
+    let marks = s.checks * stride + stride;
     let word = marks + s.checks;
     let numbers = word + s.capacity;
     Areas {

@@ -49,13 +49,14 @@ pub record CountedUp (at n : ℕ) (before after : List ℕ) : Type 0 where
 
 -- ---- the work buffer
 
--- The areas lie in a buffer of `room` bytes one behind the other, the word right behind the marks. A dense row holds all columns, of
--- which there are at most 4,096, and the net bits and the checks are together no more than the columns.
+-- The areas lie in a buffer of `room` bytes one behind the other, with room for one more row behind the rows, and the word right behind
+-- the marks. A dense row holds all columns, of which there are at most 4,096, and the net bits and the checks are together no more than
+-- the columns.
 pub record Laid (a : Areas) (room : ℕ) : Type 0 where
   pub few : a .gross ≤ 4096
   pub parts : a .net + a .checks ≤ a .gross
   pub wide : a .gross ≤ a .stride * 8
-  pub rows-end : a .checks * a .stride ≤ a .marks
+  pub rows-end : a .checks * a .stride + a .stride ≤ a .marks
   pub marks-end : a .marks + a .checks ≡ a .word
   pub word-end : a .word + a .gross ≤ a .numbers
   pub numbers-end : a .numbers + 2 * a .gross ≤ a .message

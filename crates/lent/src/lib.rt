@@ -9,9 +9,10 @@ ghost use lib.ListN.{length};
 ghost use Rattle.lent.specs.Buffer.{numberAt, storedNumber, Cleared, CountedUp};
 
 // The areas of the work buffer. In front lie the dense rows of a check matrix, `checks` rows of
-// `stride` bytes; behind them `checks` marks of a byte each, from `marks` on; then the word, `gross`
-// bits of a byte each, from `word` on; then `gross` numbers of two bytes each, from `numbers` on; and
-// `net` message bits of a byte each, from `message` on.
+// `stride` bytes, and one more row, for a word in that form; behind them `checks` marks of a byte
+// each, from `marks` on; then the word, `gross` bits of a byte each, from `word` on; then `gross`
+// numbers of two bytes each, from `numbers` on; and `net` message bits of a byte each, from `message`
+// on.
 pub struct Areas {
     pub checks: usize,
     pub gross: usize,

@@ -18,7 +18,9 @@ use Rattle.lent.specs.declared.Areas.{Areas}
 use Rattle.lent.specs.Buffer.{Laid}
 use Rattle.lent.proofs.Buffer.{length-part}
 use Rattle.dense.specs.Dense.{denseBits}
+use Rattle.mending.specs.Balances.{countWith, unmetWith, metWith, balance, Balanced}
 use Rattle.mending.specs.Marks.{wordIn, checksIn, Marked}
+use Rattle.mending.proofs.Balances.{counted-once}
 
 -- ---- counts
 
@@ -26,16 +28,6 @@ use Rattle.mending.specs.Marks.{wordIn, checksIn, Marked}
 unfoldable pub markSum : List ℕ → ℕ → ℕ → ℕ
 markSum work marks zero = 0
 markSum work marks (suc i) = markSum work marks i + getD work (marks + i) 0
-
--- among the first i checks, how many that bit j stands in are marked as unmet
-unfoldable pub unmetWith : List ℕ → ℕ → ℕ → ℕ → ℕ → ℕ
-unmetWith work stride marks j zero = 0
-unmetWith work stride marks j (suc i) = unmetWith work stride marks j i + cond (denseBits work stride i j) (getD work (marks + i) 0) 0
-
--- among the first i checks, how many that bit j stands in are marked as met
-unfoldable pub metWith : List ℕ → ℕ → ℕ → ℕ → ℕ → ℕ
-metWith work stride marks j zero = 0
-metWith work stride marks j (suc i) = metWith work stride marks j i + cond (denseBits work stride i j) (1 - getD work (marks + i) 0) 0
 
 -- by their marks, bit j stands in more unmet than met ones of k checks
 unfoldable pub suspectBy : List ℕ → ℕ → ℕ → ℕ → ℕ → Bool
@@ -69,20 +61,15 @@ pub record Passed (work : List ℕ) (k stride marks j unmetSoFar metSoFar i : �
   pub met-is : metSoFar ≡ metWith work stride marks j i
 
 pub passed-start : (work : List ℕ) (k stride marks j : ℕ) → Passed work k stride marks j 0 0 0
-unfolding unmetWith metWith
+unfolding countWith
 passed-start work k stride marks j = record { most = omega arith; few = omega arith; unmet-is = refl; met-is = refl }
-
--- a check is counted once at most
-counted-once : (t : Bool) (mark : ℕ) → mark ≤ 1 → cond t mark 0 + cond t (1 - mark) 0 ≤ 1
-counted-once true mark h = omega arith
-counted-once false mark h = omega arith
 
 module _ {work : List ℕ} {k stride marks j unmetSoFar metSoFar i : ℕ} (s : Passed work k stride marks j unmetSoFar metSoFar i) where
   -- one more check is passed, counted by its mark where the bit stands in it
   pub passed-next : {u m : ℕ} {t : Bool} → i < k → getD work (marks + i) 0 ≤ 1 → denseBits work stride i j ≡ t
       → u ≡ unmetSoFar + cond t (getD work (marks + i) 0) 0 → m ≡ metSoFar + cond t (1 - getD work (marks + i) 0) 0
       → Passed work k stride marks j u m (i + 1)
-  unfolding unmetWith metWith
+  unfolding countWith
   passed-next {t = t} l b e p q =
       record {
         most = omega arith;
@@ -104,6 +91,13 @@ module _ {work : List ℕ} {k stride marks j unmetSoFar metSoFar i : ℕ} (s : P
   passed-unsuspected e h =
       le-ltb (metWith work stride marks j k) (unmetWith work stride marks j k)
       (rw (← e) (omega (arith, s .unmet-is, s .met-is)))
+
+-- A bit whose balance is no more than the number of checks is not suspect.
+pub balance-unsuspected : (a : Areas) (work : List ℕ) (j : ℕ) → Balanced a work → j < a .gross → balance a work j ≤ a .checks
+    → suspectBy work (a .checks) (a .stride) (a .marks) j ≡ false
+unfolding suspectBy
+balance-unsuspected a work j b h l =
+    le-ltb (metWith work (a .stride) (a .marks) j (a .checks)) (unmetWith work (a .stride) (a .marks) j (a .checks)) (omega (arith, b j h))
 
 -- ---- the counts are those of the rule
 
@@ -143,7 +137,7 @@ module _ (a : Areas) (work : List ℕ) (marked : Marked a work) where
   module _ (j : ℕ) (inside : j < a .gross) where
     unmet-to : (i : ℕ) → i ≤ a .checks
         → unmetWith work (a .stride) (a .marks) j i ≡ unmetAt (checksOf i (a .gross) (denseBits work (a .stride))) (wordIn a work) j
-    unfolding unmetWith checksOf checkOf tabulate unmetAt
+    unfolding countWith checksOf checkOf tabulate unmetAt
     unmet-to zero h = refl
     unmet-to (suc i) h =
         let c : List ℕ = those (a .gross) (denseBits work (a .stride) i) in
@@ -154,7 +148,7 @@ module _ (a : Areas) (work : List ℕ) (marked : Marked a work) where
 
     met-to : (i : ℕ) → i ≤ a .checks
         → metWith work (a .stride) (a .marks) j i ≡ metAt (checksOf i (a .gross) (denseBits work (a .stride))) (wordIn a work) j
-    unfolding metWith checksOf checkOf tabulate metAt
+    unfolding countWith checksOf checkOf tabulate metAt
     met-to zero h = refl
     met-to (suc i) h =
         let c : List ℕ = those (a .gross) (denseBits work (a .stride) i) in

@@ -1,6 +1,6 @@
 -- The rule's run as a loop makes it: what is left of the run from the received word is the run from the word now.
 -- Assumes nothing.
-use Prim.Native.Nat.{ℕ, suc, _+_, _≤_, _<_}
+use Prim.Native.Nat.{ℕ, suc, _+_, _*_, _≤_, _<_}
 use mathlib.Core.Path.{_≡_, refl, sym, ap, ap₂, _∙_, subst⁻¹}
 use mathlib.Core.Bool.{false}
 use mathlib.Core.List.{List, [], _∷_}
@@ -18,13 +18,15 @@ use Rattle.laws.proofs.Rule.{AllOnce, checks-once, turned-bits, step-lowers, su
 use Rattle.laws.proofs.Steps.{run-ends, run-goes}
 use Rattle.laws.proofs.Agree.{checks-same}
 use Rattle.lent.specs.declared.Areas.{Areas}
-use Rattle.lent.specs.Buffer.{ChangedIn, Laid}
-use Rattle.lent.proofs.Buffer.{length-part, changed-none, changed-wider, changed-then, laid-as}
+use Rattle.lent.specs.Buffer.{Laid}
+use Rattle.lent.proofs.Buffer.{length-part, laid-as}
 use Rattle.dense.specs.Dense.{denseBits}
-use Rattle.dense.proofs.Dense.{rows-kept}
+use Rattle.dense.proofs.Dense.{rows-front, rows-kept}
+use Rattle.mending.specs.Balances.{ChangedBeside, Balanced, Weighed}
 use Rattle.mending.specs.Marks.{wordIn, checksIn, BitsIn, Marked, WordMarked, BitTurned, MendedBy}
 use Rattle.mending.proofs.Counts.{unmet-bit}
-use Rattle.mending.proofs.Marks.{word-kept}
+use Rattle.mending.proofs.Balances.{beside-none, beside-front, beside-numbers, beside-wider, beside-then}
+use Rattle.mending.proofs.Marks.{word-kept, marked-kept}
 
 -- ---- over words
 
@@ -82,27 +84,52 @@ unfolding checksOf
 count-few k n a w = omega (arith, count-length (checksOf k n a) w, length-tabulate k (checkOf n a))
 
 -- the checks are kept where the rows are
-checks-kept : {a : Areas} {room to : ℕ} {before after : List ℕ} → Laid a room → ChangedIn (a .marks) to before after
-    → checksIn a after ≡ checksIn a before
-checks-kept {a} {before = before} {after = after} laid c =
+checks-kept : {a : Areas} {room from to : ℕ} {before after : List ℕ} → Laid a room → a .checks * a .stride ≤ from
+    → ChangedBeside a from to before after → checksIn a after ≡ checksIn a before
+checks-kept {a} {from = from} {before = before} {after = after} laid low c =
     checks-same (a .checks) (a .gross) (denseBits after (a .stride)) (denseBits before (a .stride))
-    (rows-kept laid before after (a .marks) (laid .rows-end) (c .front))
+    (rows-kept laid before after from low (c .front))
+
+-- marks and balances are made, and nothing else is changed but the row behind the rows
+pub record Ready (a : Areas) (before after : List ℕ) : Type 0 where
+  pub changed : ChangedBeside a (a .checks * a .stride) (a .marks + a .checks) before after
+  pub marked : Marked a after
+  pub balanced : Balanced a after
+
+pub ready : {a : Areas} {before middle after : List ℕ} → Laid a (length before) → WordMarked a before middle → Weighed a middle after
+    → Ready a before after
+ready laid m w =
+    record {
+      changed = beside-then (beside-front (m .changed) (omega arith)) (beside-numbers (w .changed) (omega (arith, laid .rows-end)));
+      marked = marked-kept (laid-as laid (m .changed .long)) (w .changed) (m .marked);
+      balanced = w .balanced;
+    }
+
+-- The balances change nothing of what is unmet.
+pub count-kept : {a : Areas} {middle after : List ℕ} {first : ℕ} → Laid a (length middle) → Weighed a middle after
+    → first ≡ unmetCount (checksIn a middle) (wordIn a middle) → first ≡ unmetCount (checksIn a after) (wordIn a after)
+count-kept {a} {middle} {after} laid w e =
+    let beside : ChangedBeside a (a .marks) (a .marks + a .checks) middle after =
+    beside-numbers (w .changed) (omega (arith, laid .marks-end, laid .word-end)) in
+    e ∙ sym (ap₂ unmetCount (checks-kept laid (rows-front laid) beside) (word-kept laid beside))
 
 -- the run over the buffer, from its marked state on
 pub record MendedTo (a : Areas) (start work : List ℕ) (left repairs : ℕ) : Type 0 where
   pub laid : Laid a (length work)
-  pub changed : ChangedIn (a .marks) (a .word + a .gross) start work
+  pub changed : ChangedBeside a (a .marks) (a .word + a .gross) start work
   pub marked : Marked a work
+  pub balanced : Balanced a work
   pub run : RunTo (checksIn a start) (wordIn a start) (wordIn a work) left repairs
 
--- it starts with the checks marked
-pub mended-start : {a : Areas} {before start : List ℕ} {left : ℕ} → Laid a (length before) → BitsIn a before → WordMarked a before start
+-- it starts with marks and balances made
+pub mended-start : {a : Areas} {before start : List ℕ} {left : ℕ} → Laid a (length before) → BitsIn a before → Ready a before start
     → left ≡ unmetCount (checksIn a start) (wordIn a start) → MendedTo a start start left 0
 mended-start {a} {start = start} laid bits m e =
     record {
       laid = laid-as laid (m .changed .long);
-      changed = changed-none (a .marks) (a .word + a .gross) start;
+      changed = beside-none a (a .marks) (a .word + a .gross) start;
       marked = m .marked;
+      balanced = m .balanced;
       run = record {
         bits = subst⁻¹ AllBits (word-kept laid (m .changed)) bits;
         left-is = e;
@@ -131,31 +158,39 @@ module _ {a : Areas} {start work : List ℕ} {left repairs : ℕ} (m : MendedTo 
       → MendedTo a start later fewer (repairs + 1) × (fewer < left)
   mended-next {j} {later = later} inside e t f =
       let w : List ℕ = wordIn a work in
-      let changes : ChangedIn (a .marks) (a .word + a .gross) start later = changed-then (m .changed) (t .changed) (omega arith) (omega arith) in
-      let found : j ≡ suspect (checksIn a start) w = e ∙ ap (λ (cs : List (List ℕ)). suspect cs w) (checks-kept (m .laid) (m .changed)) in
+      let changes : ChangedBeside a (a .marks) (a .word + a .gross) start later = beside-then (m .changed) (t .changed) in
+      let found : j ≡ suspect (checksIn a start) w = e ∙ ap (λ (cs : List (List ℕ)). suspect cs w) (checks-kept (m .laid) (rows-front (m .laid)) (m .changed)) in
       let goes = run-next (m .run) (checks-once (a .checks) (a .gross) (denseBits start (a .stride)))
       (omega (arith, found, long))
       (t .word-is ∙ ap (turned w) found)
-      (f ∙ ap (λ (cs : List (List ℕ)). unmetCount cs (wordIn a later)) (checks-kept (m .laid) changes)) in
-      (record { laid = laid-as (m .laid) (t .changed .long); changed = changes; marked = t .marked; run = goes .0 }, goes .1)
+      (f ∙ ap (λ (cs : List (List ℕ)). unmetCount cs (wordIn a later)) (checks-kept (m .laid) (rows-front (m .laid)) changes)) in (
+        record {
+          laid = laid-as (m .laid) (t .changed .long);
+          changed = changes;
+          marked = t .marked;
+          balanced = t .balanced;
+          run = goes .0;
+        },
+        goes .1,
+      )
 
   -- the rule ends: no check is unmet, or no bit is suspect
-  pub mended-all : {before : List ℕ} {first : ℕ} → Laid a (length before) → WordMarked a before start
+  pub mended-all : {before : List ℕ} {first : ℕ} → Laid a (length before) → Ready a before start
       → first ≡ unmetCount (checksIn a start) (wordIn a start) → (left ≡ 0) ⊎ (suspect (checksIn a work) (wordIn a work) ≡ a .gross)
       → MendedBy a before work repairs first (ltb 0 left)
   unfolding stuck
   mended-all {before} laid k e over =
       let cs : List (List ℕ) = checksIn a start in
       let w : List ℕ = wordIn a work in
-      let checks : cs ≡ checksIn a before = checks-kept laid (k .changed) in
+      let checks : cs ≡ checksIn a before = checks-kept laid (omega arith) (k .changed) in
       let word : wordIn a start ≡ wordIn a before = word-kept laid (k .changed) in
-      let same : checksIn a work ≡ cs = checks-kept laid (m .changed) in
+      let same : checksIn a work ≡ cs = checks-kept laid (rows-front laid) (m .changed) in
       let ended : Ended cs w =
       ⊎-elim (λ none. inl (omega (arith, m .run .left-is)))
       (λ none. inr (suspect-none cs w (sym (ap (λ (c : List (List ℕ)). suspect c w) same) ∙ none ∙ sym long))) over in
       let done : (w ≡ lastWord cs (wordIn a start)) × (repairs ≡ length (repairsOf cs (wordIn a start))) = run-done (m .run) ended in
       record {
-        changed = changed-then (changed-wider (k .changed) (omega arith) (omega arith)) (m .changed) (omega arith) (omega arith);
+        changed = beside-then (beside-wider (k .changed) (omega arith) (omega arith)) (beside-wider (m .changed) (rows-front laid) (omega arith));
         word-is = done .0 ∙ ap₂ lastWord checks word;
         repairs-are = done .1 ∙ ap₂ (λ (c : List (List ℕ)) (v : List ℕ). length (repairsOf c v)) checks word;
         first-is = e ∙ ap₂ unmetCount checks word;
@@ -163,3 +198,26 @@ module _ {a : Areas} {start work : List ℕ} {left repairs : ℕ} (m : MendedTo 
         stuck-is = ap (ltb 0) (m .run .left-is ∙ ap (unmetCount cs) (done .0)) ∙ ap₂ stuck checks word;
         marked = m .marked;
       }
+
+-- No check is unmet at the start: the rule ends there.
+pub mended-none : {a : Areas} {before start : List ℕ} {first : ℕ} → Laid a (length before) → WordMarked a before start
+    → first ≡ unmetCount (checksIn a start) (wordIn a start) → first ≡ 0 → MendedBy a before start 0 0 false
+unfolding stuck
+mended-none {a} {before} {start} laid k e none =
+    let beside : ChangedBeside a (a .checks * a .stride) (a .marks + a .checks) before start =
+    beside-front (k .changed) (omega (arith, laid .marks-end, laid .word-end)) in
+    let cs : List (List ℕ) = checksIn a before in
+    let checks : checksIn a start ≡ cs = checks-kept laid (omega arith) beside in
+    let word : wordIn a start ≡ wordIn a before = word-kept laid beside in
+    let met : 0 ≡ unmetCount cs (wordIn a before) = sym none ∙ e ∙ ap₂ unmetCount checks word in
+    let over : (repairsOf cs (wordIn a before) ≡ []) × (lastWord cs (wordIn a before) ≡ wordIn a before) =
+    run-ends cs (wordIn a before) (ended-ends cs (wordIn a before) (inl (sym met))) in
+    record {
+      changed = beside-wider beside (omega arith) (omega (arith, laid .marks-end));
+      word-is = word ∙ sym (over .1);
+      repairs-are = sym (ap length (over .0));
+      first-is = met;
+      bounded = omega arith;
+      stuck-is = ap (ltb 0) (met ∙ ap (unmetCount cs) (sym (over .1)));
+      marked = k .marked;
+    }

@@ -1,1 +1,2 @@
+pub mod Balances
 pub mod Marks

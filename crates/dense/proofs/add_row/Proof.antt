@@ -7,10 +7,10 @@ use Rattle.dense.proofs.add_row.Statement.{statement}
 use Rattle.dense.proofs.add_row.Tie as tie
 
 abbrev Inv-loop : tie.InvT-loop
-Inv-loop xs₀ stride to from target source b₀ xs b = (b ≤ stride) × AddedTo stride to from b xs₀ xs
+Inv-loop xs₀ stride to from n target source b₀ xs b = (b ≤ n) × AddedTo stride to from b xs₀ xs
 
 abbrev μ-loop : tie.MeasureT-loop
-μ-loop xs₀ stride to from target source b₀ xs b = stride - b
+μ-loop xs₀ stride to from n target source b₀ xs b = n - b
 
 mul-target : tie.Need-mul-target Inv-loop μ-loop
 mul-target c = omega arith
@@ -54,7 +54,7 @@ same-length : tie.Need-same-length Inv-loop μ-loop
 same-length c = c .before .loop .inv .1 .changed .long
 
 returns : tie.Need-returns Inv-loop μ-loop
-returns c = let e : c .before .loop .b ≡ c .before .before .args .stride = omega arith in added-all (rw e at (c .before .loop .inv .1))
+returns c = let e : c .before .loop .b ≡ c .before .before .args .n = omega arith in added-all (rw e at (c .before .loop .inv .1))
 
 pub add-row-spec : {M : Type 1} → statement M
 add-row-spec =

@@ -1,47 +1,45 @@
--- `dense::parity` meets its contract: the parity of the columns up to j is kept. Assumes nothing.
-use Prim.Native.Nat.{ℕ, _-_, _+_, _≤_}
-use mathlib.Core.Path.{_≡_, refl, sym, _∙_}
-use mathlib.Core.Bool.{Bool}
-use mathlib.Core.List.{List}
-use mathlib.Core.Logic.{⊎-elim}
+-- `dense::parity` meets its contract: the parity of the columns in the bytes up to b is kept. Assumes nothing.
+use Prim.Native.Nat.{_-_, _*_, _≤_}
+use mathlib.Core.Path.{_≡_, refl, ap, _∙_}
+use mathlib.Core.Bool.{xor}
 use native.Mathlib.Omega.{arith}
-use lib.ListN.{getD}
-use Rattle.symbology.specs.Ranges.{those}
-use Rattle.symbology.specs.Matrix.{checkOf}
-use Rattle.symbology.specs.Rule.{bitSum, unmet}
-use Rattle.lent.specs.Buffer.{part}
-use Rattle.lent.proofs.Buffer.{part-at}
-use Rattle.dense.specs.Dense.{denseBits}
-use Rattle.dense.proofs.Dense.{in-row, parity-in, parity-out}
+use Rattle.symbology.specs.Ranges.{tally}
+use Rattle.laws.proofs.Gf2.{parity, dot}
+use Rattle.dense.specs.Dense.{byteBit, denseBits}
+use Rattle.dense.proofs.Dense.{parity-byte}
 use Rattle.dense.proofs.parity.Statement.{statement}
 use Rattle.dense.proofs.parity.Tie as tie
 
 abbrev Inv-loop : tie.InvT-loop
-Inv-loop xs stride i n word odd₀ j₀ odd j = (j ≤ n) × (odd ≤ 1) × (odd ≡ unmet (those j (denseBits xs stride i)) (part xs word n))
+Inv-loop xs stride i k row word both₀ b₀ both b = (b ≤ stride) × (parity 8 (byteBit both) ≡ dot (b * 8) (denseBits xs stride i) (denseBits xs stride k))
 
 abbrev μ-loop : tie.MeasureT-loop
-μ-loop xs stride i n word odd₀ j₀ odd j = n - j
+μ-loop xs stride i k row word both₀ b₀ both b = stride - b
+
+mul-row : tie.Need-mul-row Inv-loop μ-loop
+mul-row c = omega arith
+
+mul-word : tie.Need-mul-word Inv-loop μ-loop
+mul-word c = omega arith
 
 loop-holds : tie.Need-loop-holds Inv-loop μ-loop
-unfolding those unmet bitSum
-loop-holds c = (omega arith, omega arith, refl)
+unfolding parity xor
+loop-holds c = (omega arith, refl)
 
-bit-requires : tie.Need-bit-requires Inv-loop μ-loop
-bit-requires c κs =
-    let args = c .before .before .before .args in
-    omega (arith, in-row (args .n) (args .stride) (c .before .loop .j) (c .before .before .before .pre .0) (omega arith))
+add-both : tie.Need-add-both Inv-loop μ-loop
+add-both c = omega arith
 
-add-odd : tie.Need-add-odd Inv-loop μ-loop
-add-odd c = omega arith
+shared-slice-read-both : tie.Need-shared-slice-read-both Inv-loop μ-loop
+shared-slice-read-both c = omega arith
 
-shared-slice-read-odd : tie.Need-shared-slice-read-odd Inv-loop μ-loop
-shared-slice-read-odd c = omega arith
+add-both-2 : tie.Need-add-both-2 Inv-loop μ-loop
+add-both-2 c = omega arith
 
-add-odd-2 : tie.Need-add-odd-2 Inv-loop μ-loop
-add-odd-2 c = omega (arith, c .before .before .before .before .loop .inv .1)
+shared-slice-read-both-2 : tie.Need-shared-slice-read-both-2 Inv-loop μ-loop
+shared-slice-read-both-2 c = omega arith
 
-add-j : tie.Need-add-j Inv-loop μ-loop
-add-j c = omega arith
+add-b : tie.Need-add-b Inv-loop μ-loop
+add-b c = omega arith
 
 loop-less : tie.Need-loop-less Inv-loop μ-loop
 loop-less c = omega arith
@@ -49,23 +47,19 @@ loop-less c = omega arith
 loop-again : tie.Need-loop-again Inv-loop μ-loop
 loop-again c =
     let args = c .before .before .before .before .before .args in
-    let a = args in
-    let l = c .before .before .before .loop in
-    let f : ℕ → Bool = denseBits (a .xs .now) (a .stride) (a .i) in
-    let w : List ℕ = part (a .xs .now) (a .word) (a .n) in
-    let there : getD w (l .j) 0 ≡ getD (a .xs .now) (a .word + l .j) 0 = part-at (a .xs .now) (a .word) (a .n) (l .j) (omega arith) in
-    ⊎-elim
-    (λ way.
-    let s = parity-in f (l .j) w (sym (c .before .bit .ensures) ∙ way .0 .taken) in
-    (omega arith, omega (arith, way .2), omega (arith, way .2, s, l .inv .2)))
-    (λ way.
-    let s = parity-out f (l .j) w (sym (c .before .bit .ensures) ∙ way .0 .left) in
-    (omega arith, omega (arith, way .1, l .inv .1), omega (arith, way .1, s, l .inv .2)))
-    (c .if1 .came)
+    let loop = c .before .before .before .loop in (
+      omega arith,
+      parity-byte (args .stride) (args .i) (args .k) (loop .b) (args .xs .now) (loop .both) (omega arith) (loop .inv .1),
+    )
+
+odd-ones-requires : tie.Need-odd-ones-requires Inv-loop μ-loop
+odd-ones-requires c κs = tt
 
 returns : tie.Need-returns Inv-loop μ-loop
-unfolding checkOf
-returns c = let e : c .before .loop .j ≡ c .before .before .before .args .n = omega arith in rw e at (c .before .loop .inv .2)
+returns c =
+    let args = c .before .before .before .before .args in
+    let loop = c .before .before .loop in
+    let e : loop .b ≡ args .stride = omega arith in c .odd-ones .ensures ∙ ap tally (rw e at (loop .inv .1))
 
 pub parity-spec : {M : Type 1} → statement M
 parity-spec =
@@ -73,12 +67,15 @@ parity-spec =
     (tie.spec
     Inv-loop
     μ-loop
+    mul-row
+    mul-word
     loop-holds
-    bit-requires
-    add-odd
-    shared-slice-read-odd
-    add-odd-2
-    add-j
+    add-both
+    shared-slice-read-both
+    add-both-2
+    shared-slice-read-both-2
+    add-b
     loop-less
     loop-again
+    odd-ones-requires
     returns)

@@ -1,56 +1,75 @@
 -- `elimination::clear_column` meets its contract: the rows before i are done. Assumes nothing.
 use Prim.Native.Nat.{_-_, _≤_}
-use mathlib.Core.Path.{_≡_, sym, _∙_}
+use mathlib.Core.Path.{sym, _∙_}
 use mathlib.Core.Logic.{⊎-elim}
 use native.Mathlib.Omega.{arith}
-use Rattle.dense.proofs.Dense.{row-inside, bit-inside, marks-inside}
-use Rattle.elimination.proofs.Cleared.{ClearedTo, cleared-none, cleared-own, cleared-zero, cleared-add, cleared-all}
+use Rattle.dense.proofs.Dense.{row-inside, bit-inside, column-inside, marks-inside}
+use Rattle.elimination.proofs.Cleared.{ClearedTo, cleared-start, cleared-marked, cleared-zero, cleared-add, cleared-all}
 use Rattle.elimination.proofs.clear_column.Statement.{statement}
 use Rattle.elimination.proofs.clear_column.Tie as tie
 
 abbrev Inv-loop : tie.InvT-loop
-Inv-loop work₀ a pivot j i₀ work i = (i ≤ a .checks) × ClearedTo a pivot j i work₀ work
+Inv-loop work₀ a pivot j n i₀ work i = (i ≤ a .checks) × ClearedTo a pivot j i work₀ work
 
 abbrev μ-loop : tie.MeasureT-loop
-μ-loop work₀ a pivot j i₀ work i = a .checks - i
+μ-loop work₀ a pivot j n i₀ work i = a .checks - i
+
+add-n : tie.Need-add-n Inv-loop μ-loop
+add-n c = omega arith
+
+add-i : tie.Need-add-i Inv-loop μ-loop
+add-i c = omega (arith, c .before .pre .1)
 
 loop-holds : tie.Need-loop-holds Inv-loop μ-loop
-loop-holds c = let s = c .before .args in (omega arith, cleared-none (s .a) (s .pivot) (s .j) (s .work .now))
+loop-holds c =
+    (omega (arith, c .before .pre .1), cleared-start (c .before .args .a) (c .before .args .pivot) (c .before .args .j) (c .before .args .work .now))
+
+add-if2 : tie.Need-add-if2 Inv-loop μ-loop
+add-if2 c = omega (arith, marks-inside (c .before .before .before .before .before .pre .0))
+
+slice-read-if2 : tie.Need-slice-read-if2 Inv-loop μ-loop
+slice-read-if2 c =
+    let pre = c .before .before .before .before .before .before .pre in
+    let loop = c .before .before .before .before .loop in
+    omega (arith, marks-inside (pre .0), loop .inv .1 .changed .long)
 
 bit-requires : tie.Need-bit-requires Inv-loop μ-loop
 bit-requires c κs =
-    let s = c .before .before .before .before .before .before in
-    let loop = c .before .before .before .before .loop in
-    let inside = bit-inside (s .pre .0) (loop .i) (s .args .j) (omega arith) (s .pre .2) in
-    omega (arith, inside, marks-inside (s .pre .0), loop .inv .1 .changed .long)
+    let args = c .before .before .before .before .before .before .before .before .args in
+    let pre = c .before .before .before .before .before .before .before .before .pre in
+    let loop = c .before .before .before .before .before .before .loop in
+    let inside = bit-inside (pre .0) (loop .i) (args .j) (omega arith) (pre .2) in
+    omega (arith, inside, marks-inside (pre .0), loop .inv .1 .changed .long)
 
 add-row-requires : tie.Need-add-row-requires Inv-loop μ-loop
 add-row-requires c κs =
-    let s = c .before .before .before .before .before .before .before .before .before in
-    let loop = c .before .before .before .before .before .before .before .loop in
-    let other = row-inside (s .pre .0) (loop .i) (omega arith) in
-    let own = row-inside (s .pre .0) (s .args .pivot) (s .pre .1) in
-    let room = marks-inside (s .pre .0) in
+    let args = c .before .before .before .before .before .before .before .before .before .before .before .args in
+    let pre = c .before .before .before .before .before .before .before .before .before .before .before .pre in
+    let loop = c .before .before .before .before .before .before .before .before .before .loop in
+    let other = row-inside (pre .0) (loop .i) (omega arith) in
+    let own = row-inside (pre .0) (args .pivot) (pre .1) in
+    let room = marks-inside (pre .0) in
     let long = loop .inv .1 .changed .long in
-    (λ same. omega arith, omega (arith, other, room, long), omega (arith, own, room, long))
+    (λ same. omega (arith, loop .inv .1 .later), omega (arith, column-inside (pre .0) (args .j) (pre .2)), omega (arith, other, room, long), omega (arith, own, room, long))
 
-add-i : tie.Need-add-i Inv-loop μ-loop
-add-i c = omega arith
+add-i-2 : tie.Need-add-i-2 Inv-loop μ-loop
+add-i-2 c = omega arith
 
 loop-less : tie.Need-loop-less Inv-loop μ-loop
 loop-less c = omega arith
 
 loop-again : tie.Need-loop-again Inv-loop μ-loop
 loop-again c =
-    let pre = c .before .before .before .before .before .pre in
-    let r = c .before .before .before .loop .inv .1 in (
+    let pre = c .before .before .before .before .before .before .before .pre in
+    let loop = c .before .before .before .before .before .loop in
+    let r = loop .inv .1 in (
       omega arith,
       ⊎-elim
           (λ way.
-          let bit = sym (way .2 .ensures) ∙ way .3 .taken in
-          rw (way .8) (cleared-add r (pre .2) (pre .0) (omega arith) (λ same. omega (arith, way .0 .taken)) bit (way .5 .ensures)))
-          (⊎-elim (λ way. rw (way .4) (cleared-zero r (pre .2) (sym (way .2 .ensures) ∙ way .3 .left)))
-          (λ way. rw (way .1) (cleared-own r (omega (arith, way .0 .left)))))
+          rw (way .8)
+          (cleared-add (pre .0) r (pre .2) (pre .3) (omega arith) (way .0 .taken) (sym (way .2 .ensures) ∙ way .3 .taken) (way .5 .ensures)))
+          (⊎-elim (λ way. rw (way .4) (cleared-zero (pre .0) r (pre .2) (sym (way .2 .ensures) ∙ way .3 .left)))
+          (λ way. rw (way .1) (cleared-marked (pre .0) r (way .0 .left))))
           (c .if2 .came),
     )
 
@@ -58,9 +77,7 @@ same-length : tie.Need-same-length Inv-loop μ-loop
 same-length c = c .before .before .loop .inv .1 .changed .long
 
 returns : tie.Need-returns Inv-loop μ-loop
-returns c =
-    let at = c .before .before in
-    let end : at .loop .i ≡ at .before .before .args .a .checks = omega arith in cleared-all (rw end at (at .loop .inv .1))
+returns c = cleared-all (omega arith) (c .before .before .loop .inv .1)
 
 pub clear-column-spec : {M : Type 1} → statement M
 clear-column-spec =
@@ -68,10 +85,14 @@ clear-column-spec =
     (tie.spec
     Inv-loop
     μ-loop
+    add-n
+    add-i
     loop-holds
+    add-if2
+    slice-read-if2
     bit-requires
     add-row-requires
-    add-i
+    add-i-2
     loop-less
     loop-again
     same-length

@@ -9,7 +9,7 @@ use lib.Dec.{eqb}
 use lib.ListN.{getD}
 use borrow.Author.Tests.{eq-eqb, ne-eqb}
 use Rattle.laws.proofs.Ranges.{and-both}
-use Rattle.laws.proofs.Search.{SearchFrom, search-start, search-next, search-found, search-none}
+use Rattle.laws.proofs.Search.{SearchFrom, search-at, search-next, search-found, search-none}
 use Rattle.lent.specs.declared.Areas.{Areas}
 use Rattle.dense.specs.Dense.{denseBits}
 use Rattle.dense.proofs.Dense.{bit-inside, marks-inside}
@@ -18,10 +18,10 @@ use Rattle.elimination.proofs.find_row.Statement.{statement}
 use Rattle.elimination.proofs.find_row.Tie as tie
 
 abbrev Inv-loop : tie.InvT-loop
-Inv-loop work a j i₀ i = SearchFrom (isFree a work j) (a .checks) i
+Inv-loop work a from j i₀ i = SearchFrom (isFree a work j) (a .checks) i
 
 abbrev μ-loop : tie.MeasureT-loop
-μ-loop work a j i₀ i = a .checks - i
+μ-loop work a from j i₀ i = a .checks - i
 
 -- whether row i is free, from its mark and from its bit
 module _ (a : Areas) (work : List ℕ) (j i : ℕ) where
@@ -37,7 +37,11 @@ module _ (a : Areas) (work : List ℕ) (j i : ℕ) where
   marked-row m = ap (λ (b : Bool). b && denseBits work (a .stride) i j) (ne-eqb (getD work (a .marks + i) 0) 0 m)
 
 loop-holds : tie.Need-loop-holds Inv-loop μ-loop
-loop-holds c = let s = c .before .args in search-start (isFree (s .a) (s .work .now) (s .j)) (s .a .checks)
+loop-holds c =
+    let s = c .before .args in
+    let pre = c .before .pre in
+    search-at (isFree (s .a) (s .work .now) (s .j)) (s .a .checks) (s .from) (pre .1)
+    (λ i h. ap (λ (b : Bool). b && denseBits (s .work .now) (s .a .stride) i (s .j)) (pre .2 i h))
 
 add-if2 : tie.Need-add-if2 Inv-loop μ-loop
 add-if2 c = omega (arith, marks-inside (c .before .before .before .before .before .pre .0))
@@ -48,7 +52,7 @@ shared-slice-read-if2 c = omega (arith, marks-inside (c .before .before .before 
 bit-requires : tie.Need-bit-requires Inv-loop μ-loop
 bit-requires c κs =
     let s = c .before .before .before .before .before .before .before in
-    let inside = bit-inside (s .pre .0) (c .before .before .before .before .before .loop .i) (s .args .j) (omega arith) (s .pre .1) in
+    let inside = bit-inside (s .pre .0) (c .before .before .before .before .before .loop .i) (s .args .j) (omega arith) (s .pre .3) in
     omega (arith, inside, marks-inside (s .pre .0))
 
 returns : tie.Need-returns Inv-loop μ-loop

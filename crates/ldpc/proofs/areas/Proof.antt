@@ -11,6 +11,9 @@ add-stride c = search needs
 mul-marks : tie.Need-mul-marks
 mul-marks c = search needs
 
+add-marks : tie.Need-add-marks
+add-marks c = search needs
+
 add-word : tie.Need-add-word
 add-word c = search needs
 
@@ -28,4 +31,4 @@ unfolding areasOf
 returns c = refl
 
 pub areas-spec : {M : Type 1} → statement M
-areas-spec = tie.close (tie.spec add-stride mul-marks add-word add-numbers mul-t6 add-t7 returns)
+areas-spec = tie.close (tie.spec add-stride mul-marks add-marks add-word add-numbers mul-t6 add-t7 returns)

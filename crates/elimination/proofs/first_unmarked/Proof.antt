@@ -1,0 +1,70 @@
+-- `elimination::first_unmarked` meets its contract: every row before i has a mark. Assumes nothing.
+use Prim.Native.Nat.{_-_, _+_}
+use mathlib.Core.Path.{sym}
+use native.Mathlib.Omega.{arith}
+use lib.ListN.{getD}
+use borrow.Author.Tests.{eq-eqb, ne-eqb}
+use Rattle.laws.proofs.Search.{SearchFrom, search-at, search-next, search-found, search-none}
+use Rattle.dense.proofs.Dense.{marks-inside}
+use Rattle.elimination.specs.Reduced.{isUnmarked}
+use Rattle.elimination.proofs.first_unmarked.Statement.{statement}
+use Rattle.elimination.proofs.first_unmarked.Tie as tie
+
+abbrev Inv-loop : tie.InvT-loop
+Inv-loop work a from i₀ i = SearchFrom (isUnmarked a work) (a .checks) i
+
+abbrev μ-loop : tie.MeasureT-loop
+μ-loop work a from i₀ i = a .checks - i
+
+loop-holds : tie.Need-loop-holds Inv-loop μ-loop
+loop-holds c = search-at (isUnmarked (c .args .a) (c .args .work .now)) (c .args .a .checks) (c .args .from) (c .pre .1) (c .pre .2)
+
+add-if2 : tie.Need-add-if2 Inv-loop μ-loop
+add-if2 c = omega (arith, marks-inside (c .before .before .before .before .pre .0))
+
+shared-slice-read-if2 : tie.Need-shared-slice-read-if2 Inv-loop μ-loop
+shared-slice-read-if2 c = omega (arith, marks-inside (c .before .before .before .before .before .pre .0))
+
+returns : tie.Need-returns Inv-loop μ-loop
+returns c =
+    let args = c .before .before .before .before .before .before .args in
+    let loop = c .before .before .before .before .before .loop in
+    let s = args in
+    let unmarked = eq-eqb (getD (s .work .now) (s .a .marks + loop .i) 0) 0 (c .if2 .taken) in
+    sym (search-found (isUnmarked (s .a) (s .work .now)) (s .a .checks) (loop .i) (loop .inv) (omega arith) unmarked)
+
+add-i : tie.Need-add-i Inv-loop μ-loop
+add-i c = omega arith
+
+loop-less : tie.Need-loop-less Inv-loop μ-loop
+loop-less c = omega arith
+
+loop-again : tie.Need-loop-again Inv-loop μ-loop
+loop-again c =
+    let args = c .before .before .before .before .before .before .args in
+    let loop = c .before .before .before .before .before .loop in
+    let s = args in
+    let marked = ne-eqb (getD (s .work .now) (s .a .marks + loop .i) 0) 0 (c .if2 .left) in
+    search-next (isUnmarked (s .a) (s .work .now)) (s .a .checks) (loop .i) (loop .inv) (omega arith) marked
+
+returns-2 : tie.Need-returns-2 Inv-loop μ-loop
+returns-2 c =
+    let args = c .before .before .before .args in
+    let loop = c .before .before .loop in
+    let s = args in
+    omega (arith, search-none (isUnmarked (s .a) (s .work .now)) (s .a .checks) (loop .i) (loop .inv) (omega arith))
+
+pub first-unmarked-spec : {M : Type 1} → statement M
+first-unmarked-spec =
+    tie.close
+    (tie.spec
+    Inv-loop
+    μ-loop
+    loop-holds
+    add-if2
+    shared-slice-read-if2
+    returns
+    add-i
+    loop-less
+    loop-again
+    returns-2)
