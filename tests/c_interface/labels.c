@@ -131,8 +131,8 @@ static void round_trips(void) {
  * are unmet at first, and the bit itself is suspect. Each repair lowers their number, and one that leaves none unmet turns a bit
  * whose three checks were all unmet: so a word that is mended has 1 repair, and one that is stuck 1 or 2. No two columns of this A
  * stand in the same three checks, so the bit that is turned and leaves none unmet is the damaged one, and the message the right one.
- * That, and that 949 of the 1,044 are mended, was computed by another program. It follows the library's definitions of A and of the
- * rule, not its code, and was written once this one had printed its numbers; its generator and exchanges were compared with Annex E. */
+ * That, and that 949 of the 1,044 are mended, was computed by another program, which follows the library's definitions of A and of the
+ * rule, not its code; the second program, written from the papers alone, gave 949, 95 and 3 too (second/tests/round_trips.rs). */
 static void one_bit_turned(void) {
     uint8_t bytes[80], clean[MODULES];
     uint32_t answer[5];

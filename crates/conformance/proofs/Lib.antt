@@ -1,0 +1,2 @@
+-- Lemmas of the code: buffers that hold one byte everywhere.
+mod Filled

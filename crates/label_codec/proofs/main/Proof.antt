@@ -1,0 +1,67 @@
+-- `label_codec::main` is safe: the list ends inside its buffer. Assumes nothing.
+use native.Mathlib.Omega.{arith}
+use lib.ListN.{length-take}
+use borrow.Author.Needs.{needs}
+use Rattle.label_codec.proofs.main.Statement.{statement}
+use Rattle.label_codec.proofs.main.Tie as tie
+
+params-requires : tie.Need-params-requires
+params-requires c κs = search needs
+
+slice-aggregate-take-list : tie.Need-slice-aggregate-take-list
+slice-aggregate-take-list c = search needs
+
+take-list-requires : tie.Need-take-list-requires
+take-list-requires c κs = search needs
+
+mode-requires : tie.Need-mode-requires
+mode-requires c κs = search needs
+
+print-colours-requires : tie.Need-print-colours-requires
+print-colours-requires c κs = search needs
+
+returns : tie.Need-returns
+returns c = search needs
+
+array-share-prefix-list : tie.Need-array-share-prefix-list
+array-share-prefix-list c = search needs
+
+slice-aggregate-read-label : tie.Need-slice-aggregate-read-label
+slice-aggregate-read-label c = simp length-take (omega arith)
+
+read-label-requires : tie.Need-read-label-requires
+read-label-requires c κs = search needs
+
+returns-2 : tie.Need-returns-2
+returns-2 c = search needs
+
+array-share-prefix-list-2 : tie.Need-array-share-prefix-list-2
+array-share-prefix-list-2 c = search needs
+
+slice-aggregate-write-label : tie.Need-slice-aggregate-write-label
+slice-aggregate-write-label c = simp length-take (omega arith)
+
+write-label-requires : tie.Need-write-label-requires
+write-label-requires c κs = search needs
+
+returns-3 : tie.Need-returns-3
+returns-3 c = search needs
+
+pub main-spec : {M : Type 1} → statement M
+main-spec =
+    tie.close
+    (tie.spec
+    params-requires
+    slice-aggregate-take-list
+    take-list-requires
+    mode-requires
+    print-colours-requires
+    returns
+    array-share-prefix-list
+    slice-aggregate-read-label
+    read-label-requires
+    returns-2
+    array-share-prefix-list-2
+    slice-aggregate-write-label
+    write-label-requires
+    returns-3)

@@ -1,0 +1,25 @@
+//! A second codec for JAB Code symbols: message bytes to a matrix of colour
+//! indices, and a sampled matrix back to bytes.
+//!
+//! It was written from document 01 and the papers it names alone, so that its
+//! answers can stand beside those of another program.
+
+#![forbid(unsafe_code)]
+
+pub mod bits;
+pub mod chance;
+pub mod code;
+pub mod codec;
+pub mod generator;
+pub mod geometry;
+pub mod masking;
+pub mod mending;
+pub mod params;
+pub mod reserved;
+pub mod stream;
+pub mod symbol;
+
+pub use bits::Bits;
+pub use codec::{read, sizes, write, ReadAnswer};
+pub use params::{Params, Refusal, Sizes};
+pub use symbol::Symbol;

@@ -1,0 +1,138 @@
+//! One case given to both codecs, and what differs.
+
+use crate::both::{Codec, PROVED, SECOND};
+use crate::case::{Call, Case};
+use second::{ReadAnswer, Refusal, Sizes};
+use std::panic;
+
+#[derive(Clone, Copy, Debug, PartialEq, Eq)]
+pub enum Answer {
+    Write(Refusal),
+    Read(ReadAnswer),
+}
+
+/// What both calls of a case answered.
+#[derive(Clone, Copy, Debug, PartialEq, Eq)]
+pub struct Answers {
+    pub sizes: Result<Sizes, Refusal>,
+    pub answer: Answer,
+}
+
+/// Bytes or numbers in front of and behind what is lent.
+const GUARD: usize = 64;
+
+/// A lent buffer between guards.
+struct Guarded<T> {
+    whole: Vec<T>,
+    front: usize,
+    behind: usize,
+}
+
+impl<T: Copy + PartialEq> Guarded<T> {
+    /// The front guard's length varies, and with it the alignment.
+    fn new(lent: impl Iterator<Item = T>, guard: T, shift: u8) -> Guarded<T> {
+        let front = GUARD + usize::from(shift % 16);
+        let mut whole = vec![guard; front];
+        whole.extend(lent);
+        let behind = whole.len();
+        whole.resize(behind + GUARD, guard);
+        Guarded {
+            whole,
+            front,
+            behind,
+        }
+    }
+
+    fn lent(&mut self) -> &mut [T] {
+        &mut self.whole[self.front..self.behind]
+    }
+
+    /// The name with the first place where two buffers differ; in the guard in
+    /// front of what is lent the place is below 0.
+    fn difference(&self, name: &'static str, other: &Guarded<T>) -> Option<Place> {
+        let mut pairs = self.whole.iter().zip(&other.whole);
+        let place = pairs.position(|(one, other)| one != other)?;
+        Some((name, place as isize - self.front as isize))
+    }
+}
+
+/// A buffer and a place in it.
+type Place = (&'static str, isize);
+
+/// All that is lent in a case, also what a call may not store to. The second
+/// program has no unsafe code, so its guards stay, and those of the proved
+/// library are compared with them.
+struct Buffers {
+    list: Guarded<u16>,
+    message: Guarded<u8>,
+    matrix: Guarded<u8>,
+    work: Guarded<u8>,
+}
+
+impl Buffers {
+    fn new(case: &Case) -> Buffers {
+        let fill = case.fill;
+        let guard = !fill;
+        let given = |bytes: &[u8]| Guarded::new(bytes.iter().copied(), guard, fill);
+        let blank = |length: usize| {
+            // no constant byte, so that a byte stored by mistake shows
+            let bytes = (0..length).map(|place| (place as u8).wrapping_mul(167) ^ fill);
+            Guarded::new(bytes, guard, fill / 16)
+        };
+        let (message, matrix) = match &case.call {
+            Call::Write(message, matrix) => (given(message), blank(*matrix)),
+            Call::Read(matrix, room) => (blank(*room), given(matrix)),
+        };
+        Buffers {
+            list: Guarded::new(case.list.iter().copied(), 0xA5A5, fill),
+            message,
+            matrix,
+            work: blank(case.work),
+        }
+    }
+
+    fn difference(&self, other: &Buffers) -> Option<Place> {
+        self.list
+            .difference("list", &other.list)
+            .or_else(|| self.message.difference("message", &other.message))
+            .or_else(|| self.matrix.difference("matrix", &other.matrix))
+            .or_else(|| self.work.difference("work", &other.work))
+    }
+}
+
+fn run(codec: &Codec, case: &Case) -> (Answers, Buffers) {
+    let mut lent = Buffers::new(case);
+    let (params, list, work) = (&case.params, lent.list.lent(), lent.work.lent());
+    let (message, matrix) = (lent.message.lent(), lent.matrix.lent());
+    let sizes = (codec.sizes)(params, list);
+    let answer = match &case.call {
+        Call::Write(..) => Answer::Write((codec.write)(params, list, message, matrix, work)),
+        Call::Read(..) => Answer::Read((codec.read)(params, list, matrix, work, message)),
+    };
+    (Answers { sizes, answer }, lent)
+}
+
+/// A panic is told on standard error, and is a difference.
+fn run_or_panic(codec: &Codec, case: &Case) -> Option<(Answers, Buffers)> {
+    panic::catch_unwind(|| run(codec, case)).ok()
+}
+
+/// What both answered, or how they differ.
+pub fn compare(case: &Case) -> Result<Answers, String> {
+    let proved = run_or_panic(&PROVED, case);
+    let second = run_or_panic(&SECOND, case);
+    let (proved, second) = match (proved, second) {
+        (Some(proved), Some(second)) => (proved, second),
+        (None, _) => return Err("the proved library's call panicked".to_string()),
+        (_, None) => return Err("the second program's call panicked".to_string()),
+    };
+    let place = proved.1.difference(&second.1);
+    if proved.0 == second.0 && place.is_none() {
+        return Ok(second.0);
+    }
+    let place = place.map_or("no buffer differs".to_string(), |(name, place)| {
+        format!("the first difference of buffers is in {name}, at {place}")
+    });
+    let (proved, second) = (proved.0, second.0);
+    Err(format!("proved: {proved:?}\nsecond: {second:?}\n{place}"))
+}

@@ -1,0 +1,206 @@
+//! A case: one call of the codec, its line of input and its line of output.
+
+use crate::symbols::Symbols;
+use second::chance::Chance;
+use second::{read, sizes, write, Bits, Params, Symbol};
+
+/// What every buffer is filled with before a call.
+const FILL: u8 = 165;
+
+/// What a caller lends besides buffers.
+#[derive(Clone)]
+pub struct Lent {
+    pub params: Params,
+    pub list: Vec<u16>,
+}
+
+impl Lent {
+    /// The symbol, where the parameters and the list are legal.
+    pub fn symbol(&self) -> Symbol {
+        Symbol::new(&self.params, &self.list).expect("a legal symbol")
+    }
+
+    pub fn work(&self) -> usize {
+        self.symbol().sizes().work
+    }
+
+    pub fn modules(&self) -> usize {
+        self.symbol().modules()
+    }
+}
+
+pub enum Call {
+    /// The length of the matrix, and the message.
+    Write(usize, Vec<u8>),
+    /// The length of the message buffer, and the matrix.
+    Read(usize, Vec<u8>),
+}
+
+pub struct Case {
+    about: String,
+    lent: Lent,
+    work: usize,
+    call: Call,
+}
+
+/// A case's number and its line of output.
+pub struct Answer {
+    pub number: u32,
+    pub line: String,
+}
+
+impl Case {
+    pub fn is_read(&self) -> bool {
+        matches!(self.call, Call::Read(..))
+    }
+
+    /// The comment and the line of input.
+    pub fn input(&self) -> String {
+        let p = &self.lent.params;
+        let mut numbers = vec![u32::from(self.is_read())];
+        numbers.extend([p.kind, p.horizontal, p.vertical, p.colours]);
+        numbers.extend([p.black, p.cyan, p.yellow, p.wc, p.wr, p.mask, p.turn]);
+        numbers.push(self.lent.list.len() as u32);
+        numbers.extend(self.lent.list.iter().map(|&number| u32::from(number)));
+        let (sizes, bytes) = match &self.call {
+            Call::Write(matrix, message) => ([*matrix, self.work], message),
+            Call::Read(room, matrix) => ([self.work, *room], matrix),
+        };
+        numbers.extend(sizes.iter().map(|&size| size as u32));
+        numbers.push(bytes.len() as u32);
+        numbers.extend(bytes.iter().map(|&byte| u32::from(byte)));
+        format!("# {}\n{}\n", self.about, joined(&numbers))
+    }
+
+    pub fn answer(&self) -> Answer {
+        let mut work = vec![FILL; self.work];
+        match &self.call {
+            Call::Write(matrix, message) => self.written(*matrix, message, &mut work),
+            Call::Read(room, matrix) => self.have_read(*room, matrix, &mut work),
+        }
+    }
+
+    fn written(&self, modules: usize, message: &[u8], work: &mut [u8]) -> Answer {
+        let Lent { params, list } = &self.lent;
+        let mut matrix = vec![FILL; modules];
+        let answer = write(params, list, message, &mut matrix, work);
+        let shown = if answer.number == 0 {
+            matrix.iter().map(u8::to_string).collect()
+        } else {
+            kept(&matrix).to_string()
+        };
+        let (number, place) = (answer.number, answer.place);
+        Answer {
+            number,
+            line: format!("write {number} {place} {} {shown}\n", state(work)),
+        }
+    }
+
+    fn have_read(&self, room: usize, matrix: &[u8], work: &mut [u8]) -> Answer {
+        let Lent { params, list } = &self.lent;
+        let mut message = vec![FILL; room];
+        let answer = read(params, list, matrix, work, &mut message);
+        let (bytes, rest) = message.split_at(answer.length);
+        let counts = [
+            answer.number as usize,
+            answer.place,
+            answer.length,
+            answer.repairs,
+            answer.unmet,
+        ];
+        let mut line = format!("read {} {} {}", joined(&counts), state(work), kept(rest));
+        if !bytes.is_empty() {
+            line = format!("{line} {}", joined(bytes));
+        }
+        line.push('\n');
+        Answer {
+            number: answer.number,
+            line,
+        }
+    }
+}
+
+fn joined<T: ToString>(numbers: &[T]) -> String {
+    let texts: Vec<String> = numbers.iter().map(T::to_string).collect();
+    texts.join(" ")
+}
+
+fn kept(buffer: &[u8]) -> &'static str {
+    if buffer.iter().all(|&byte| byte == FILL) {
+        "kept"
+    } else {
+        "changed"
+    }
+}
+
+/// What became of the work buffer; an empty one counts as zero.
+fn state(work: &[u8]) -> &'static str {
+    if work.iter().all(|&byte| byte == 0) {
+        "zero"
+    } else {
+        kept(work)
+    }
+}
+
+/// The cases in their order, and the chance that makes them.
+pub struct Book {
+    cases: Vec<Case>,
+    pub chance: Chance,
+}
+
+impl Book {
+    pub fn new(seed: u64) -> Book {
+        Book {
+            cases: Vec::new(),
+            chance: Chance::new(seed),
+        }
+    }
+
+    pub fn into_cases(self) -> Vec<Case> {
+        self.cases
+    }
+
+    /// Any call, within what the conformance program can hold.
+    pub fn call(&mut self, about: &str, lent: &Lent, work: usize, call: Call) {
+        assert!(lent.list.len() <= 3_100 && work <= 65_536);
+        let (matrix, message) = match &call {
+            Call::Write(matrix, message) => (*matrix, message.len()),
+            Call::Read(room, matrix) => (matrix.len(), *room),
+        };
+        assert!(matrix <= 4_096 && message <= 1_024);
+        if let Ok(sizes) = sizes(&lent.params, &lent.list) {
+            assert!(sizes.capacity <= 1_047 && lent.params.wc == 3 && lent.params.wr == 9);
+        }
+        self.cases.push(Case {
+            about: about.to_string(),
+            lent: lent.clone(),
+            work,
+            call,
+        });
+    }
+
+    /// A write with a matrix and a work buffer of the right lengths.
+    pub fn write(&mut self, about: &str, lent: &Lent, message: &[u8]) {
+        let call = Call::Write(lent.modules(), message.to_vec());
+        self.call(about, lent, lent.work(), call);
+    }
+
+    /// A read with a work buffer of the least length and more room than needed.
+    pub fn read(&mut self, about: &str, lent: &Lent, matrix: Vec<u8>) {
+        self.read_into(about, lent, matrix, 200);
+    }
+
+    pub fn read_into(&mut self, about: &str, lent: &Lent, matrix: Vec<u8>, room: usize) {
+        self.call(about, lent, lent.work(), Call::Read(room, matrix));
+    }
+
+    /// A usual symbol whose net bits can hold a stream.
+    pub fn usual_for(&mut self, stream: &Bits) -> Lent {
+        loop {
+            let lent = self.chance.usual();
+            if stream.len() < lent.symbol().sizes().net {
+                return lent;
+            }
+        }
+    }
+}

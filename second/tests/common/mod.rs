@@ -1,0 +1,70 @@
+//! What the tests share: a symbol to begin from, lists, chance, round trips.
+#![allow(dead_code)]
+
+use second::geometry::Layout;
+use second::{Params, Symbol};
+
+/// A primary symbol of version 1 with 8 colours, wc 3 and wr 9.
+pub fn params() -> Params {
+    Params {
+        kind: 0,
+        horizontal: 1,
+        vertical: 1,
+        colours: 8,
+        black: 0,
+        cyan: 3,
+        yellow: 2,
+        wc: 3,
+        wr: 9,
+        mask: 0,
+        turn: 0,
+    }
+}
+
+/// A legal list of the first data modules, row after row.
+pub fn reserved_list(params: &Params, entries: usize) -> Vec<u16> {
+    let layout = Layout::with_patterns(params);
+    let free = (0..layout.modules()).filter(|&index| layout.fixed(index).is_none());
+    free.take(entries)
+        .flat_map(|index| {
+            let column = (index % layout.columns() + 1) as u16;
+            let row = (index / layout.columns() + 1) as u16;
+            [column, row, (index as u32 % params.colours) as u16]
+        })
+        .collect()
+}
+
+/// Writes a message to a symbol made with `reserved_list` and, if it fits, reads
+/// it back; gives the writer's number.
+pub fn round_trip(symbol: &Symbol, message: &[u8]) -> u32 {
+    let entries = {
+        let layout = Layout::with_patterns(symbol.params());
+        layout.data_modules().len() - symbol.data_modules().len()
+    };
+    let list = reserved_list(symbol.params(), entries);
+    let mut matrix = vec![165; symbol.modules()];
+    let mut work = vec![165; symbol.sizes().work];
+    let written = second::write(symbol.params(), &list, message, &mut matrix, &mut work);
+    assert!(work.iter().all(|&byte| byte == 0));
+    if written.number == 0 {
+        let mut back = vec![165; message.len() + 3];
+        let answer = second::read(symbol.params(), &list, &matrix, &mut work, &mut back);
+        assert_eq!(answer.number, 0);
+        assert_eq!((answer.repairs, answer.unmet), (0, 0));
+        assert_eq!(&back[..answer.length], message);
+        assert_eq!(&back[answer.length..], [165; 3]);
+    }
+    written.number
+}
+
+/// Chance for tests: a xorshift generator.
+pub struct Chance(pub u64);
+
+impl Chance {
+    pub fn below(&mut self, bound: usize) -> usize {
+        self.0 ^= self.0 << 13;
+        self.0 ^= self.0 >> 7;
+        self.0 ^= self.0 << 17;
+        (self.0 >> 11) as usize % bound
+    }
+}
