@@ -3,7 +3,7 @@
 use crate::geometry::Layout;
 use crate::params::Refusal;
 
-const MOST_ENTRIES: usize = 1_024;
+pub const MOST_ENTRIES: usize = 1_024;
 
 /// Fixes the modules of the list, or refuses it. A module fixed already belongs
 /// to a pattern or to an earlier entry.

@@ -203,6 +203,20 @@ pub fn length(bytes: usize) -> usize {
         .saturating_add(full * head_length(LONGEST_RUN) + last_head)
 }
 
+/// The bytes of the longest message whose stream and end mark fit in the net
+/// bits.
+pub fn longest(net: usize) -> usize {
+    (0..net)
+        .take_while(|&bytes| length(bytes) < net)
+        .last()
+        .unwrap_or(0)
+}
+
+/// A switch with two bits appended: its value and its width.
+pub const fn extended(value: u32, width: usize, appended: u32) -> (u32, usize) {
+    (value << 2 | appended, width + 2)
+}
+
 /// The stream of a message: uppercase mode shifts to byte mode for each run.
 pub fn write(message: &[u8]) -> Bits {
     let mut bits = Bits::new();

@@ -18,8 +18,9 @@ use Rattle.symbology.specs.Ranges.{tally, allBelow}
 use Rattle.symbology.specs.Matrix.{checkOf}
 use Rattle.symbology.specs.Rule.{unmet}
 use Rattle.symbology.proofs.Ranges.{below-true}
+use Rattle.laws.proofs.Ranges.{tally-le}
 use Rattle.laws.proofs.Masks.{xor-digit}
-use Rattle.laws.proofs.Gf2.{parity, parity-ext, parity-xor, parity-add, parity-short, dot, dot-ext, bitAt, unmet-dot, xor-none, none-xor, xor-same}
+use Rattle.laws.proofs.Gf2.{parity, parity-ext, parity-xor, parity-add, parity-short, dot, dot-ext, bitAt, odd-step, unmet-dot, xor-none, none-xor, xor-same}
 use Rattle.lent.specs.declared.Areas.{Areas}
 use Rattle.lent.specs.Buffer.{part, ChangedIn, Cleared, Laid}
 use Rattle.lent.proofs.Buffer.{part-at, changed-none, changed-set, changed-then}
@@ -59,6 +60,10 @@ bit-xor u v k =
     ap (λ (z : ℕ). eqb (z % 2) 1) (xor-shr u v k)
     ∙ ap (λ (z : ℕ). eqb z 1) (xor-digit (u / 2 ^ k) (v / 2 ^ k))
     ∙ differ-bit (u / 2 ^ k % 2) (v / 2 ^ k % 2) (omega arith) (omega arith)
+
+-- a byte of 0 has no bit
+pub zero-bit : (k : ℕ) → byteBit 0 k ≡ false
+zero-bit k = ap (λ (v : ℕ). byteBit v k) (sym (xor-self 0)) ∙ bit-xor 0 0 k ∙ xor-same (byteBit 0 k)
 
 -- the bits of the powers of two in a byte, computed
 power-bits : allBelow 8 (λ b. allBelow 8 (λ k. eqb (1 * 2 ^ b % 2 ^ 8 / 2 ^ k % 2) (tally (eqb k b)))) ≡ true
@@ -253,12 +258,9 @@ packed-start {s} {k} {word} {before} {after} z =
       changed = changed-none (k * s) (k * s + s) after;
       done = λ c h.
           ap (λ (v : ℕ). byteBit v (c % 8)) (z .zero-in (k * s + c / 8) (omega arith) (omega arith))
-          ∙ no-bit (c % 8)
+          ∙ zero-bit (c % 8)
           ∙ sym (ap (λ (b : Bool). b && eqb (getD after (word + c) 0 % 2) 1) (le-ltb c 0 (omega arith)));
     }
-  where
-    no-bit : (e : ℕ) → byteBit 0 e ≡ false
-    no-bit e = ap (λ (v : ℕ). byteBit v e) (sym (xor-self 0)) ∙ bit-xor 0 0 e ∙ xor-same (byteBit 0 e)
 
 module _ {s k word j : ℕ} {before after : List ℕ} (p : PackedTo s k word j before after) where
   -- the columns other than j are as before
@@ -360,18 +362,12 @@ parity-byte s i k b xs both h e =
 
 -- one more bit of a byte
 pub odd-bit : (x k odd : ℕ) → odd ≡ tally (parity k (byteBit x)) → (odd + x / 2 ^ k % 2) % 2 ≡ tally (parity (k + 1) (byteBit x))
-unfolding parity xor
+unfolding parity
 odd-bit x k odd e =
-    ap (λ (v : ℕ). (v + x / 2 ^ k % 2) % 2) e
-    ∙ step (parity k (byteBit x)) (x / 2 ^ k % 2) (omega arith)
-    ∙ ap (λ (n : ℕ). tally (parity n (byteBit x))) (sym (add-one k))
-  where
-    step : (p : Bool) (y : ℕ) → y < 2 → (tally p + y) % 2 ≡ tally (xor p (eqb y 1))
-    step true zero h = refl
-    step true (suc zero) h = refl
-    step false zero h = refl
-    step false (suc zero) h = refl
-    step p (suc (suc y)) h = absurd (omega arith)
+    let y : ℕ = x / 2 ^ k in
+    let low : (odd + y % 2) % 2 ≡ (odd + y) % 2 = omega arith in
+    let bit : odd % 2 ≡ tally (parity k (byteBit x)) = omega (arith, e, tally-le (parity k (byteBit x))) in
+    low ∙ odd-step odd y (parity k (byteBit x)) bit ∙ ap (λ (n : ℕ). tally (parity n (byteBit x))) (sym (add-one k))
 
 -- Where row k is a word, the parity of row i and row k tells whether the check of row i is unmet in it.
 pub packed-unmet : (s i k word n : ℕ) (xs : List ℕ) → n ≤ s * 8 → Packed s k word n xs

@@ -1,5 +1,5 @@
-// The dense rows of a check matrix in lent bytes: its bits, its rows added, its checks judged. The rows
-// lie in front of the buffer, `stride` bytes each, eight columns to a byte, the first column lowest.
+// The dense rows of a check matrix in lent bytes: its bits, its rows added, a word stored as a row, its
+// checks judged. The rows lie in front of the buffer, `stride` bytes each, eight columns to a byte, the first column lowest.
 ghost use Prim.Native.Nat.{_+_, _*_, _/_, _≤_, _<_};
 ghost use mathlib.Core.Path.{_≡_};
 ghost use lib.ListN.{length};

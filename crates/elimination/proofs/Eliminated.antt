@@ -35,7 +35,7 @@ InvOf a m work j = Inv (a .checks) (a .gross) m (isCheck a m) (rows a work) (isU
 
 -- ---- the state
 
--- the columns from j on are eliminated, and only rows, marks and numbers are changed
+-- the columns from j on are eliminated, and at most rows, marks, numbers and the row behind the rows are changed
 pub record Eliminating (a : Areas) (j : ℕ) (before after : List ℕ) : Type 0 where
   pub left : j ≤ a .gross
   pub changed : ChangedInBoth (a .marks + a .checks) (a .numbers) (a .numbers + 2 * a .gross) before after

@@ -76,6 +76,14 @@ module _ (k n : ℕ) (a : BitMatrix) (chk : ℕ → Bool) where
   module _ (r : BitMatrix) (used : ℕ → Bool) (row : ℕ → ℕ) where
     -- ---- words solved
 
+    -- A word whose bit in a check column is the sum of the earlier bits in the ones of its row meets that row.
+    pivot-met : (j : ℕ) → Inv k n a chk r used row j → (w : ℕ → Bool) (i c : ℕ) → Pivot n chk j c → row c ≡ i
+        → w c ≡ dot c (r (row c)) w → dot n (r i) w ≡ false
+    pivot-met j inv w i c p e fills =
+        subst (λ (x : ℕ). dot n (r x) w ≡ false) e
+        (lead-dot n (r (row c)) w c (p .1) (inv .lead c p) (inv .high c p)
+        ∙ ap (xor (dot c (r (row c)) w)) fills ∙ xor-same (dot c (r (row c)) w))
+
     -- a word in the kernel's making: the columns below m that are check columns behind j hold the sum of their row's earlier bits, the
     -- other columns what `base` says
     module _ (j : ℕ) (base : ℕ → Bool) where
@@ -90,12 +98,6 @@ module _ (k n : ℕ) (a : BitMatrix) (chk : ℕ → Bool) where
       solved-past : (m c : ℕ) → (c ≡ m → ⊥) → solvedTo (suc m) c ≡ solvedTo m c
       unfolding solvedTo
       solved-past m c h = ap (λ (b : Bool). cond (b && isSolved m) (dot m (r (row m)) (solvedTo m)) (solvedTo m c)) (ne-eqb c m h)
-
-      -- a column that is not reached holds the base's bit
-      solved-late : (m c : ℕ) → m ≤ c → solvedTo m c ≡ base c
-      unfolding solvedTo
-      solved-late zero c h = refl
-      solved-late (suc m) c h = solved-past m c (λ e. omega arith) ∙ solved-late m c (omega arith)
 
       -- a column that was passed is as its own step left it
       solved-early : (m c : ℕ) → c < m → solvedTo m c ≡ solvedTo (suc c) c
@@ -156,12 +158,9 @@ module _ (k n : ℕ) (a : BitMatrix) (chk : ℕ → Bool) where
       unfolding parts
       clear-message zeros = by (chk j) (λ t. absurd (law .free j h t parts dep)) (λ z. z)
         where
-          used-row : (i c : ℕ) → i < k → Pivot n chk (suc j) c → row c ≡ i → dot n (r i) parts ≡ false
-          used-row i c l p e =
-              subst (λ (x : ℕ). dot n (r x) parts ≡ false) e
-              (lead-dot n (r (row c)) parts c (p .1) (inv .lead c p) (inv .high c p)
-              ∙ ap (xor (dot c (r (row c)) parts)) (solved-sum j (λ c. eqb c j) n c (p .1) (is-solved c p))
-              ∙ xor-same (dot c (r (row c)) parts))
+          used-row : (i : ℕ) → ((c : ℕ) × (Pivot n chk (suc j) c) × (row c ≡ i)) → dot n (r i) parts ≡ false
+          used-row i o =
+              pivot-met (suc j) inv parts i (o .0) (o .1) (o .2) (solved-sum j (λ c. eqb c j) n (o .0) (o .1 .1) (is-solved (o .0) (o .1)))
 
           free-row : (i : ℕ) → i < k → used i ≡ false → dot n (r i) parts ≡ false
           free-row i l u =
@@ -181,7 +180,7 @@ module _ (k n : ℕ) (a : BitMatrix) (chk : ℕ → Bool) where
             before = parts-early;
             after = λ c g g′ o. by (isSolved j (λ c. eqb c j) c) (λ t. solved-pivot c g′ t .2)
                 (λ z. clash o (solved-base j (λ c. eqb c j) n c z ∙ ne-eqb c j (λ e. omega arith)));
-            met = inv .from parts (λ i l. by (used i) (λ u. let o = inv .owner i l u in used-row i (o .0) l (o .1) (o .2)) (free-row i l));
+            met = inv .from parts (λ i l. by (used i) (λ u. used-row i (inv .owner i l u)) (free-row i l));
           }
 
       -- A column with a 1 in an unused row is a check column.
@@ -309,13 +308,9 @@ module _ (k n : ℕ) (a : BitMatrix) (chk : ℕ → Bool) where
     -- At the end, a word whose every check bit is the sum of the earlier bits in the ones of its row is in the kernel.
     pub solved : Inv k n a chk r used row 0 → (w : ℕ → Bool)
         → ((c : ℕ) → c < n → chk c ≡ true → w c ≡ dot c (r (row c)) w) → Meets k n a w
-    solved inv w fills = inv .from w (λ i h. by (used i) (λ u. let o = inv .owner i h u in used-row i (o .0) (o .1) (o .2)) (free-row i h))
+    solved inv w fills =
+        inv .from w (λ i h.
+        by (used i) (λ u. let o = inv .owner i h u in pivot-met 0 inv w i (o .0) (o .1) (o .2) (fills (o .0) (o .1 .1) (o .1 .2))) (free-row i h))
       where
-        used-row : (i c : ℕ) → Pivot n chk 0 c → row c ≡ i → dot n (r i) w ≡ false
-        used-row i c p e =
-            subst (λ (x : ℕ). dot n (r x) w ≡ false) e
-            (lead-dot n (r (row c)) w c (p .1) (inv .lead c p) (inv .high c p)
-            ∙ ap (xor (dot c (r (row c)) w)) (fills c (p .1) (p .2)) ∙ xor-same (dot c (r (row c)) w))
-
         free-row : (i : ℕ) → i < k → used i ≡ false → dot n (r i) w ≡ false
         free-row i h u = parity-none n (λ c. r i c && w c) (λ c g. ap (λ (b : Bool). b && w c) (inv .none i h u c (omega arith) g))

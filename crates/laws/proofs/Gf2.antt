@@ -3,7 +3,6 @@
 -- Assumes nothing.
 use Prim.Native.Nat.{ℕ, zero, suc, _+_, _%_, _≤_, _<_}
 use mathlib.Core.Path.{_≡_, refl, sym, ap, ap₂, _∙_, subst⁻¹}
-use mathlib.Core.Logic.{_↔_}
 use mathlib.Core.Bool.{Bool, true, false, cond, not, _&&_, xor, and-true, and-false}
 use mathlib.Core.List.{List, [], _∷_, _++_}
 use native.Mathlib.Nat.{add-zero, add-suc}
@@ -13,7 +12,6 @@ use lib.Dec.{eqb}
 use lib.ListN.{getD}
 use borrow.Author.Tests.{eq-eqb, ne-eqb, eqb-true, eqb-false}
 use Rattle.symbology.specs.Ranges.{tally, those, tabulate}
-use Rattle.symbology.specs.Bits.{AllBits}
 use Rattle.symbology.specs.Matrix.{BitMatrix, checkOf, checksOf}
 use Rattle.symbology.specs.Rule.{bitSum, unmet, unmetCount}
 use Rattle.laws.proofs.Ranges.{by, tally-none}
@@ -235,13 +233,6 @@ meets-ext k n a b v w p q m i h = sym (dot-ext n (a i) (b i) v w (p i h) q) ∙ 
 abbrev pub bitAt : List ℕ → ℕ → Bool
 bitAt w j = eqb (getD w j 0 % 2) 1
 
--- of a list of bits it is the test of the element itself
-pub bitAt-is : (w : List ℕ) → AllBits w → (j : ℕ) → bitAt w j ≡ eqb (getD w j 0) 1
-bitAt-is w h j =
-    let l : getD w j 0 ≤ 1 = h j in
-    let e : getD w j 0 % 2 ≡ getD w j 0 = omega arith in
-    ap (λ (x : ℕ). eqb x 1) e
-
 -- bits with the same test are the same
 pub bit-same : (x y : ℕ) → x ≤ 1 → y ≤ 1 → eqb (x % 2) 1 ≡ eqb (y % 2) 1 → x ≡ y
 bit-same x y p q e =
@@ -260,7 +251,8 @@ unfolding unmetCount
 unmetCount-snoc [] c w = omega arith
 unmetCount-snoc (x ∷ cs) c w = omega (arith, unmetCount-snoc cs c w)
 
-odd-step : (s y : ℕ) (p : Bool) → s % 2 ≡ tally p → (s + y) % 2 ≡ tally (xor p (eqb (y % 2) 1))
+-- one more number added
+pub odd-step : (s y : ℕ) (p : Bool) → s % 2 ≡ tally p → (s + y) % 2 ≡ tally (xor p (eqb (y % 2) 1))
 odd-step s y p e =
     by (eqb (y % 2) 1) (λ t. rw t (let o : y % 2 ≡ 1 = eqb-true (y % 2) 1 t in odd p e o)) (λ t. rw (t, xor-none p) (even (eqb-false (y % 2) 1 t)))
   where
@@ -305,7 +297,3 @@ unfolding checksOf tabulate unmetCount
 meets-none zero n a w m = refl
 meets-none (suc k) n a w m =
     unmet-more k n a w ∙ ap₂ _+_ (meets-none k n a w (λ i h. m i (omega arith))) (ap tally (m k (omega arith)))
-
--- No check of a matrix is unmet exactly when the dot product of each row and the word is 0.
-pub meets-unmet : (k n : ℕ) (a : BitMatrix) (w : List ℕ) → (unmetCount (checksOf k n a) w ≡ 0) ↔ Meets k n a (bitAt w)
-meets-unmet k n a w = (unmet-meets k n a w, meets-none k n a w)

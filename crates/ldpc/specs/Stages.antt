@@ -13,7 +13,7 @@ use Rattle.symbology.specs.Read.{checksFor, messageBitsFor}
 use Rattle.lent.specs.Buffer.{ChangedInBoth}
 use Rattle.ldpc.specs.Work.{areasOf, wordFor, netFor, HoldsA}
 
--- the rows are those of A; only they and the numbers are changed
+-- the rows are those of A; at most they, the row behind them and the numbers are changed
 pub record RowsBuilt (s : Sizes) (before after : List ℕ) : Type 0 where
   pub changed : ChangedInBoth (areasOf s .marks) (areasOf s .numbers) (areasOf s .message) before after
   pub holds : HoldsA s after
@@ -25,8 +25,8 @@ pub record Encoded (s : Sizes) (before after : List ℕ) : Type 0 where
   pub word-is : wordFor s after ≡ codewordFor s (netFor s before)
 
 -- The word is the last of the rule's run from the word before, over the checks of A, and repairs, first unmet count and stuck are those
--- of that run. The rows are those of A; only rows, marks, word and numbers are changed. Marks and numbers are scratch then: nothing is
--- said of them.
+-- of that run. The rows are those of A; only rows, marks, word and numbers are changed. The row behind
+-- the rows, marks and numbers are scratch then: nothing is said of them.
 pub record MendedFor (s : Sizes) (before after : List ℕ) (repairs first : ℕ) (isStuck : Bool) : Type 0 where
   pub changed : ChangedInBoth (areasOf s .word + s .gross) (areasOf s .numbers) (areasOf s .message) before after
   pub word-is : wordFor s after ≡ lastWord (checksFor s) (wordFor s before)

@@ -112,7 +112,7 @@ metAt-snoc [] c w j = omega arith
 metAt-snoc (x ∷ cs) c w j = omega (arith, metAt-snoc cs c w j)
 
 -- A check is unmet or met.
-pub unmet-bit : (c w : List ℕ) → unmet c w ≤ 1
+unmet-bit : (c w : List ℕ) → unmet c w ≤ 1
 unfolding unmet
 unmet-bit c w = omega arith
 

@@ -14,7 +14,7 @@ use Rattle.symbology.specs.Matrix.{BitMatrix, checkOf, checksOf}
 use Rattle.symbology.specs.Rule.{unmetCount, suspect, turned, ends, repairsOf, lastWord, stuck}
 use Rattle.symbology.specs.Mending.{Ended}
 use Rattle.laws.proofs.Ranges.{length-tabulate}
-use Rattle.laws.proofs.Rule.{AllOnce, checks-once, turned-bits, step-lowers, suspect-to, suspect-lowest, suspect-none, ended-ends}
+use Rattle.laws.proofs.Rule.{AllOnce, checks-once, turned-bits, step-lowers, suspect-to, suspect-lowest, suspect-none, unmet-most, ended-ends}
 use Rattle.laws.proofs.Steps.{run-ends, run-goes}
 use Rattle.laws.proofs.Agree.{checks-same}
 use Rattle.lent.specs.declared.Areas.{Areas}
@@ -24,7 +24,6 @@ use Rattle.dense.specs.Dense.{denseBits}
 use Rattle.dense.proofs.Dense.{rows-front, rows-kept}
 use Rattle.mending.specs.Balances.{ChangedBeside, Balanced, Weighed}
 use Rattle.mending.specs.Marks.{wordIn, checksIn, BitsIn, Marked, WordMarked, BitTurned, MendedBy}
-use Rattle.mending.proofs.Counts.{unmet-bit}
 use Rattle.mending.proofs.Balances.{beside-none, beside-front, beside-numbers, beside-wider, beside-then}
 use Rattle.mending.proofs.Marks.{word-kept, marked-kept}
 
@@ -73,15 +72,10 @@ module _ {cs : List (List ℕ)} {from now : List ℕ} {left repairs : ℕ} (r : 
 
 -- ---- over the work buffer
 
-count-length : (cs : List (List ℕ)) (w : List ℕ) → unmetCount cs w ≤ length cs
-unfolding unmetCount
-count-length [] w = omega arith
-count-length (c ∷ cs) w = omega (arith, unmet-bit c w, count-length cs w)
-
 -- No more checks are unmet than there are rows.
-count-few : (k n : ℕ) (a : BitMatrix) (w : List ℕ) → unmetCount (checksOf k n a) w ≤ k
+unmet-few : (k n : ℕ) (a : BitMatrix) (w : List ℕ) → unmetCount (checksOf k n a) w ≤ k
 unfolding checksOf
-count-few k n a w = omega (arith, count-length (checksOf k n a) w, length-tabulate k (checkOf n a))
+unmet-few k n a w = omega (arith, unmet-most (checksOf k n a) w, length-tabulate k (checkOf n a))
 
 -- the checks are kept where the rows are
 checks-kept : {a : Areas} {room from to : ℕ} {before after : List ℕ} → Laid a room → a .checks * a .stride ≤ from
@@ -150,7 +144,7 @@ module _ {a : Areas} {start work : List ℕ} {left repairs : ℕ} (m : MendedTo 
   -- there are no more repairs than there can be checks
   pub repairs-few : repairs ≤ 4096
   repairs-few =
-      omega (arith, m .laid, m .run .bounded, count-few (a .checks) (a .gross) (denseBits start (a .stride)) (wordIn a start))
+      omega (arith, m .laid, m .run .bounded, unmet-few (a .checks) (a .gross) (denseBits start (a .stride)) (wordIn a start))
 
   -- the suspect bit is turned: fewer checks are unmet
   pub mended-next : {j fewer : ℕ} {later : List ℕ} → j < a .gross → j ≡ suspect (checksIn a work) (wordIn a work)

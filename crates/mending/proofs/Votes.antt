@@ -1,19 +1,17 @@
 -- The balances stored one after the other: all to one number, and voted on by a row.
 -- Assumes nothing.
-use Prim.Native.Nat.{ℕ, _+_, _-_, _*_, _/_, _%_, _^_, _≤_, _<_}
+use Prim.Native.Nat.{ℕ, _+_, _-_, _*_, _/_, _%_, _≤_, _<_}
 use mathlib.Core.Path.{_≡_, refl, sym, ap, _∙_}
 use mathlib.Core.Bool.{true, false, cond}
 use mathlib.Core.List.{List}
 use native.Mathlib.Decide.{ℕ-discrete, decLt}
-use native.Mathlib.Nat.{zero-div}
 use native.Mathlib.Omega.{arith}
-use lib.Dec.{eqb}
 use lib.ListN.{length, getD}
 use Rattle.lent.specs.declared.Areas.{Areas}
 use Rattle.lent.specs.Buffer.{numberAt, storedNumber, ChangedIn, Laid}
 use Rattle.lent.proofs.Buffer.{number-same, stored-there, stored-other, changed-none, changed-stored}
-use Rattle.dense.specs.Dense.{denseBits}
-use Rattle.dense.proofs.Dense.{rows-kept}
+use Rattle.dense.specs.Dense.{byteBit, denseBits}
+use Rattle.dense.proofs.Dense.{zero-bit, rows-kept}
 use Rattle.mending.specs.Balances.{balance, Votes, RowVoted, Levelled}
 
 -- ---- all stored as one number
@@ -77,14 +75,14 @@ voted-start n stride numbers i add sub work =
       rest = λ p h g. refl;
     }
 
--- a byte of 0 has no bit
+-- a row has no bit in a byte of 0
 none-in : (s i j p : ℕ) (work : List ℕ) → getD work (i * s + j / 8) 0 ≡ 0 → j ≤ p → p < 8 * (j / 8) + 8
     → denseBits work s i p ≡ false
 unfolding denseBits
 none-in s i j p work e h g =
     let same : p / 8 ≡ j / 8 = omega arith in
     let byte : getD work (i * s + p / 8) 0 ≡ 0 = ap (λ (b : ℕ). getD work (i * s + b) 0) same ∙ e in
-    ap (λ (v : ℕ). eqb (v / 2 ^ (p % 8) % 2) 1) byte ∙ ap (λ (v : ℕ). eqb (v % 2) 1) (zero-div (2 ^ (p % 8)))
+    ap (λ (v : ℕ). byteBit v (p % 8)) byte ∙ zero-bit (p % 8)
 
 module _ {n stride numbers i add sub j : ℕ} {before after : List ℕ} (v : VotedTo n stride numbers i add sub j before after) where
   -- the bit stands in the check

@@ -50,7 +50,7 @@ BalancedTo a i work =
 abbrev pub Balanced : Areas → List ℕ → Type 0
 Balanced a work = BalancedTo a (a .checks) work
 
--- each bit of check i can have `add` added to its balance and `sub` taken off, in two bytes
+-- each bit of check i can have `add`, at most 2, added to its balance and `sub` taken off, in two bytes
 pub record Votes (a : Areas) (i add sub : ℕ) (work : List ℕ) : Type 0 where
   pub small : add ≤ 2
   pub fits : (j : ℕ)

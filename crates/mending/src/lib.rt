@@ -45,7 +45,7 @@ fn mark_checks(work: &mut [u8], a: Areas)
     set_marks(work, a);
 }
 
-// Adds to the balance of each bit of check i and takes off from it. A byte of the row that is 0 is
+// Adds `add` to the balance of each bit of check i and takes `sub` off. A byte of the row that is 0 is
 // passed by at once.
 fn vote_row(work: &mut [u8], a: Areas, i: usize, add: usize, sub: usize)
     requires { ⌜ Laid a (length (now work)) × (i < a .checks) × Votes a i add sub (now work) ⌝ }

@@ -88,8 +88,7 @@ fn large() -> (Params, Vec<u16>) {
 /// As many bytes as fit.
 fn longest_message(net: usize) -> Vec<u8> {
     let mut chance = Generator::new(1);
-    let longest = (0..net).rev().find(|&n| stream::length(n) < net);
-    (0..longest.unwrap_or(0))
+    (0..stream::longest(net))
         .map(|_| chance.draw() as u8)
         .collect()
 }

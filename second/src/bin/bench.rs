@@ -1,6 +1,6 @@
 //! Times the proved library against this codec: the same inputs, one thread,
-//! one run. The rounds alternate between the two, so that a drift of the
-//! machine's speed falls on both.
+//! one run. The rounds alternate between the two, so that a drift of speed falls
+//! on both.
 
 #[path = "../both.rs"]
 mod both;

@@ -9,6 +9,7 @@
 use second::code::{CheckMatrix, Lengths};
 use second::generator::Generator;
 use second::mending::mend;
+use second::stream::longest;
 use second::Bits;
 
 const CAPACITY: usize = 1_047;
@@ -56,14 +57,6 @@ fn places(generator: &mut Generator, gross: usize, count: usize) -> Vec<usize> {
     chosen
 }
 
-/// The greatest message whose stream and end mark fit in the net bits.
-fn bytes(net: usize) -> usize {
-    (0..net)
-        .take_while(|&n| second::stream::length(n) < net)
-        .last()
-        .unwrap_or(0)
-}
-
 /// A row of the table: every word with one wrong bit, and random words with
 /// more.
 fn row(wc: usize, wr: usize) -> String {
@@ -84,7 +77,7 @@ fn row(wc: usize, wr: usize) -> String {
         other += outcomes.other;
         outcomes.share()
     });
-    let room = bytes(lengths.net);
+    let room = longest(lengths.net);
     let right = format!("{} of {}", single.right, lengths.gross);
     let shares = shares.join(" | ");
     format!(
@@ -118,13 +111,13 @@ fn sizes_row(wc: usize, wr: usize) -> String {
 }
 
 fn main() {
-    println!("| wc | wr | bytes | one wrong bit | 4 wrong bits | 8 wrong bits | 16 wrong bits | wrong messages |");
+    println!("| wc | wr | bytes | one wrong bit | 4 wrong bits | 8 wrong bits | 16 wrong bits | another codeword |");
     println!("|---|---|---|---|---|---|---|---|");
     for (wc, wr) in [(3, 9), (3, 7), (4, 9), (4, 7), (5, 9), (6, 9), (8, 9)] {
         println!("{}", row(wc, wr));
     }
     println!(
-        "\n| wc | wr | columns alike | one wrong bit stuck | one wrong bit into another message |"
+        "\n| wc | wr | columns alike | one wrong bit stuck | one wrong bit into another codeword |"
     );
     println!("|---|---|---|---|---|");
     for (wc, wr) in [(3, 9), (4, 9), (5, 9)] {

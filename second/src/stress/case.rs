@@ -98,8 +98,7 @@ fn draw_read(chance: &mut Chance, legal: Option<Symbol>, colours: u32, modules: 
 /// of a run changes its form, or any.
 fn draw_write(chance: &mut Chance, legal: Option<Symbol>, modules: usize) -> Call {
     let net = legal.map_or(300, |symbol| symbol.sizes().net);
-    let longest = (0..=net / 8).rev().find(|&n| stream::length(n) < net);
-    let longest = longest.unwrap_or(0);
+    let longest = stream::longest(net);
     let any = chance.below(longest + 1);
     let length = match chance.below(20) {
         0 | 1 => 0,
@@ -111,7 +110,7 @@ fn draw_write(chance: &mut Chance, legal: Option<Symbol>, modules: usize) -> Cal
         12 => chance.between(8_206, 17_000),
         _ => any,
     };
-    Call::Write(chance.bytes_below(256, length), modules)
+    Call::Write(chance.bytes(length), modules)
 }
 
 impl fmt::Display for Case {

@@ -53,12 +53,9 @@ fn of_stream(symbol: &Symbol, bits: &Bits) -> Sampled {
 
 /// The stream of a message that fits.
 fn message_stream(chance: &mut Chance, symbol: &Symbol) -> Bits {
-    let most = symbol.lengths().net / 8;
-    let mut length = chance.between(0, most);
-    while stream::length(length) >= symbol.lengths().net {
-        length -= 1;
-    }
-    stream::write(&chance.bytes_below(256, length))
+    let net = symbol.lengths().net;
+    let length = chance.between(0, net / 8).min(stream::longest(net));
+    stream::write(&chance.bytes(length))
 }
 
 /// Any net bits, of which a stream may be left, and a 1 in a spare column.

@@ -3,12 +3,11 @@
 
 use second::chance::Chance;
 use second::geometry::{inner_patterns, side_size, Layout};
+use second::reserved::MOST_ENTRIES;
 use second::Params;
 
-const MOST_ENTRIES: usize = 1_024;
-
-/// Ranges of C, each as often as its weight says. The large ones take up to a
-/// second a call, and the first and the last ones are refused with 3.
+/// Weight, lowest and highest of each range of C, drawn as often as its weight
+/// says. Some sizes of the first and of the last ones are refused with 3.
 const RANGES: [(usize, usize, usize); 8] = [
     (5, 0, 9),
     (12, 9, 60),

@@ -2,6 +2,7 @@
 //! a fault.
 
 use second::chance::Chance;
+use second::stream::extended;
 use second::Bits;
 
 /// A code: its number and its bits.
@@ -75,11 +76,6 @@ const MODES: [Mode; 4] = [
         bytes: extended(63, 6, 0),
     },
 ];
-
-/// A switch with two bits appended.
-const fn extended(value: u32, width: usize, appended: u32) -> Code {
-    (value << 2 | appended, width + 2)
-}
 
 /// ECI and FNC1 in uppercase mode.
 const REFUSED: [Code; 2] = [extended(31, 5, 2), extended(31, 5, 3)];

@@ -2,6 +2,7 @@
 
 use crate::case::{Book, Call, Lent};
 use crate::symbols::Symbols;
+use second::geometry::side_size;
 use second::Params;
 
 /// A parameter put out of range, and words for it.
@@ -108,8 +109,7 @@ fn parameters(book: &mut Book) {
 
 /// A write with a list that is refused; the other buffers are in order.
 fn list(book: &mut Book, about: &str, params: Params, list: &[u16]) {
-    let side = |version: u32| 17 + 4 * version as usize;
-    let modules = side(params.horizontal) * side(params.vertical);
+    let modules = side_size(params.horizontal) * side_size(params.vertical);
     let lent = Lent {
         params,
         list: list.to_vec(),

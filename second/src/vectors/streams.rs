@@ -1,7 +1,8 @@
 //! Undamaged matrices whose streams go through every mode and every ending.
 
 use crate::case::{Book, Call, Lent};
-use second::{stream, Bits};
+use second::stream::{self, extended};
+use second::Bits;
 
 /// Codes as value and width.
 type Codes = Vec<(u32, usize)>;
@@ -27,11 +28,6 @@ const ALPHANUMERIC_BYTES: (u32, usize) = extended(63, 6, 0);
 const ALPHANUMERIC_MIXED: (u32, usize) = extended(63, 6, 1);
 const ALPHANUMERIC_PUNCTUATION: (u32, usize) = extended(63, 6, 2);
 const ALPHANUMERIC_TO_UPPERCASE: (u32, usize) = extended(63, 6, 3);
-
-/// A switch with two bits appended.
-const fn extended(value: u32, width: usize, appended: u32) -> (u32, usize) {
-    (value << 2 | appended, width + 2)
-}
 
 fn bits(codes: &[(u32, usize)]) -> Bits {
     let mut bits = Bits::new();

@@ -33,11 +33,7 @@ fn masks(book: &mut Book) {
 
 /// The bytes of the longest message that fits.
 fn longest(lent: &Lent) -> usize {
-    let net = lent.symbol().sizes().net;
-    (0..net)
-        .rev()
-        .find(|&bytes| stream::length(bytes) < net)
-        .unwrap_or(0)
+    stream::longest(lent.symbol().sizes().net)
 }
 
 fn lengths(book: &mut Book) {

@@ -68,24 +68,23 @@ loop-again c =
     let pre = c .before .before .before .before .before .before .before .pre in
     let loop = c .before .before .before .before .before .loop in
     let a = args .a in
-    let l = loop in
-    let s = l .inv .2 in
-    let number : c .before .number-at .result ≡ rowOf a (l .work) (l .j) = c .before .number-at .ensures .0 in
+    let s = loop .inv .2 in
+    let number : c .before .number-at .result ≡ rowOf a (loop .work) (loop .j) = c .before .number-at .ensures .0 in
     ⊎-elim
     (λ way.
-    let t : isMessage a (l .work) (l .j) ≡ true = le-leb (a .checks) (rowOf a (l .work) (l .j)) (omega (arith, way .0 .taken, number)) in (
+    let t : isMessage a (loop .work) (loop .j) ≡ true = le-leb (a .checks) (rowOf a (loop .work) (loop .j)) (omega (arith, way .0 .taken, number)) in (
       omega arith,
       omega (arith, way .2),
       ⊎-elim
-          (λ has. placed-net (pre) s (omega arith) t (has .0 .taken) (c .if2 .m) (c .if2 .v) (way .2) (way .3 ∙ has .2))
-          (λ none. placed-spare (pre) s (omega arith) t (none .0 .left) (c .if2 .m) (c .if2 .v) (way .2) (way .3 ∙ none .1))
+          (λ has. placed-net pre s (omega arith) t (has .0 .taken) (c .if2 .m) (c .if2 .v) (way .2) (way .3 ∙ has .2))
+          (λ none. placed-spare pre s (omega arith) t (none .0 .left) (c .if2 .m) (c .if2 .v) (way .2) (way .3 ∙ none .1))
           (way .1 .came),
     ))
     (λ way.
-    let t : isMessage a (l .work) (l .j) ≡ false = lt-leb (a .checks) (rowOf a (l .work) (l .j)) (omega (arith, way .0 .left, number)) in (
+    let t : isMessage a (loop .work) (loop .j) ≡ false = lt-leb (a .checks) (rowOf a (loop .work) (loop .j)) (omega (arith, way .0 .left, number)) in (
       omega arith,
-      omega (arith, way .1, l .inv .1),
-      placed-check (pre) s (omega arith) t (c .if2 .m) (c .if2 .v) (way .1) (way .2),
+      omega (arith, way .1, loop .inv .1),
+      placed-check pre s (omega arith) t (c .if2 .m) (c .if2 .v) (way .1) (way .2),
     ))
     (c .if2 .came)
 

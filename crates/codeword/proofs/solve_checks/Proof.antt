@@ -77,14 +77,13 @@ loop-again c =
     let loop = c .before .before .before .before .before .loop in
     let a = args .a in
     let pre = c .before .before .before .before .before .before .before .pre in
-    let l = loop in
-    let number : c .before .number-at .result ≡ rowOf a (l .work) (l .c) = c .before .number-at .ensures .0 in
-    let odd : ℕ → ℕ = λ i. tally (dot (a .stride * 8) (denseBits (l .work) (a .stride) i) (denseBits (l .work) (a .stride) (a .checks))) in
+    let number : c .before .number-at .result ≡ rowOf a (loop .work) (loop .c) = c .before .number-at .ensures .0 in
+    let odd : ℕ → ℕ = λ i. tally (dot (a .stride * 8) (denseBits (loop .work) (a .stride) i) (denseBits (loop .work) (a .stride) (a .checks))) in
     ⊎-elim
     (λ way. (
       omega arith,
       solved-as
-          (solved-odd (pre .0) (l .inv .1) (omega arith) (pre .1) (pre .2) (lt-leb (a .checks) (rowOf a (l .work) (l .c)) (omega (arith, way .0 .taken, number))) (way .2 .ensures ∙ ap odd number) (way .3 .taken)
+          (solved-odd (pre .0) (loop .inv .1) (omega arith) (pre .1) (pre .2) (lt-leb (a .checks) (rowOf a (loop .work) (loop .c)) (omega (arith, way .0 .taken, number))) (way .2 .ensures ∙ ap odd number) (way .3 .taken)
           (way .5 .ensures))
           (way .8),
     ))
@@ -92,13 +91,13 @@ loop-again c =
     (λ way. (
       omega arith,
       solved-as
-          (solved-even (pre .0) (l .inv .1) (omega arith) (pre .1) (pre .2) (lt-leb (a .checks) (rowOf a (l .work) (l .c)) (omega (arith, way .0 .taken, number))) (way .2 .ensures ∙ ap odd number) (way .3 .left))
+          (solved-even (pre .0) (loop .inv .1) (omega arith) (pre .1) (pre .2) (lt-leb (a .checks) (rowOf a (loop .work) (loop .c)) (omega (arith, way .0 .taken, number))) (way .2 .ensures ∙ ap odd number) (way .3 .left))
           (way .4),
     ))
     (λ way. (
       omega arith,
       solved-as
-          (solved-message (pre .0) (l .inv .1) (omega arith) (le-leb (a .checks) (rowOf a (l .work) (l .c)) (omega (arith, way .0 .left, number)))) (way .1),
+          (solved-message (pre .0) (loop .inv .1) (omega arith) (le-leb (a .checks) (rowOf a (loop .work) (loop .c)) (omega (arith, way .0 .left, number)))) (way .1),
     )))
     (c .if2 .came)
 

@@ -43,9 +43,9 @@ loop-holds c = (λ entry l cleared. eliminating-start l cleared, omega arith, λ
 so-far : (c : tie.At-loop Inv-loop μ-loop)
     → let s = c .before .before .before .before .before .before .before .args in Eliminating (s .a) (c .loop .j) (s .work .now) (c .loop .work)
 so-far c =
-    let before = c .before .before .before .before .before .before .before in
+    let s = c .before .before .before .before .before .before .before in
     let clear = c .before .before .before .clear in
-    let s = before in c .loop .inv .0 (s .args .work .now) (s .pre) (clear .ensures)
+    c .loop .inv .0 (s .args .work .now) (s .pre) (clear .ensures)
 
 -- the areas lie in the buffer
 laid : (c : tie.At-loop Inv-loop μ-loop) → Laid (c .before .before .before .before .before .before .before .args .a) (length (c .loop .work))
@@ -170,10 +170,9 @@ loop-again-2 : tie.Need-loop-again-2 Inv-loop μ-loop
 loop-again-2 c =
     let pre = c .before .before .before .before .before .before .before .before .before .before .before .before .before .before .before .before .before .pre in
     let loop = c .before .before .before .before .before .before .before .before .before .before .loop in
-    let before = c .before .before .before .before .before .before .before .before .before in
+    let turn = c .before .before .before .before .before .before .before .before .before in
     let find-row = c .before .before .before .before .before .before .before .find-row in
-    let put-number = c .before .before .before .before .put-number in
-    let turn = before in (
+    let put-number = c .before .before .before .before .put-number in (
       λ entry l cleared. rw (put-number .ensures) (message-step l (behind turn entry l cleared) (find-row .ensures) (omega arith)),
       loop .inv .1,
       rw (put-number .ensures) (noted-before pre (own-behind turn) (find-row .ensures) (loop .inv .1) (loop .inv .2)),

@@ -29,9 +29,8 @@ returns : tie.Need-returns Inv-loop μ-loop
 returns c =
     let args = c .before .before .before .before .before .before .args in
     let loop = c .before .before .before .before .before .loop in
-    let s = args in
-    let unmarked = eq-eqb (getD (s .work .now) (s .a .marks + loop .i) 0) 0 (c .if2 .taken) in
-    sym (search-found (isUnmarked (s .a) (s .work .now)) (s .a .checks) (loop .i) (loop .inv) (omega arith) unmarked)
+    let unmarked = eq-eqb (getD (args .work .now) (args .a .marks + loop .i) 0) 0 (c .if2 .taken) in
+    sym (search-found (isUnmarked (args .a) (args .work .now)) (args .a .checks) (loop .i) (loop .inv) (omega arith) unmarked)
 
 add-i : tie.Need-add-i Inv-loop μ-loop
 add-i c = omega arith
@@ -43,16 +42,14 @@ loop-again : tie.Need-loop-again Inv-loop μ-loop
 loop-again c =
     let args = c .before .before .before .before .before .before .args in
     let loop = c .before .before .before .before .before .loop in
-    let s = args in
-    let marked = ne-eqb (getD (s .work .now) (s .a .marks + loop .i) 0) 0 (c .if2 .left) in
-    search-next (isUnmarked (s .a) (s .work .now)) (s .a .checks) (loop .i) (loop .inv) (omega arith) marked
+    let marked = ne-eqb (getD (args .work .now) (args .a .marks + loop .i) 0) 0 (c .if2 .left) in
+    search-next (isUnmarked (args .a) (args .work .now)) (args .a .checks) (loop .i) (loop .inv) (omega arith) marked
 
 returns-2 : tie.Need-returns-2 Inv-loop μ-loop
 returns-2 c =
     let args = c .before .before .before .args in
     let loop = c .before .before .loop in
-    let s = args in
-    omega (arith, search-none (isUnmarked (s .a) (s .work .now)) (s .a .checks) (loop .i) (loop .inv) (omega arith))
+    omega (arith, search-none (isUnmarked (args .a) (args .work .now)) (args .a .checks) (loop .i) (loop .inv) (omega arith))
 
 pub first-unmarked-spec : {M : Type 1} → statement M
 first-unmarked-spec =
