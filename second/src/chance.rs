@@ -1,4 +1,4 @@
-//! Random numbers that a seed fixes, for the vectors and the random cases.
+//! Random numbers that a seed fixes, for tests, vectors and random cases.
 
 use crate::bits::Bits;
 

@@ -2,7 +2,8 @@
 
 mod common;
 
-use common::{params, reserved_list, round_trip, Chance};
+use common::{params, reserved_list, round_trip};
+use second::chance::Chance;
 use second::geometry::Layout;
 use second::{read, stream, Params, Symbol};
 
@@ -23,7 +24,7 @@ fn random_params(chance: &mut Chance) -> Params {
         cyan: palette[1],
         yellow: palette[2],
         wc,
-        wr: (wc + 1).max(4) + chance.below(9 - wc as usize) as u32,
+        wr: wc + 1 + chance.below(9 - wc as usize) as u32,
         mask: chance.below(8) as u32,
         turn: chance.below(2) as u32,
     }
@@ -40,14 +41,14 @@ fn symbol_near(params: &Params, capacity: usize) -> Option<(Symbol, Vec<u16>)> {
 
 #[test]
 fn random_legal_parameters() {
-    let mut chance = Chance(0x5EED);
+    let mut chance = Chance::new(0x5EED);
     let mut written = 0;
     while written < 400 {
         let parameters = random_params(&mut chance);
         let capacity = 60 + chance.below(1_500);
         if let Some((symbol, _)) = symbol_near(&parameters, capacity) {
             let length = chance.below(symbol.sizes().net / 8 + 2);
-            let message: Vec<u8> = (0..length).map(|_| chance.below(256) as u8).collect();
+            let message = chance.bytes(length);
             let fits = stream::length(length) < symbol.sizes().net;
             let expected = if fits { 0 } else { 6 };
             assert_eq!(round_trip(&symbol, &message), expected);

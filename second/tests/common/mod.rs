@@ -1,4 +1,4 @@
-//! What the tests share: a symbol to begin from, lists, chance, round trips.
+//! What the tests share: a symbol to begin from, lists, round trips.
 #![allow(dead_code)]
 
 use second::geometry::Layout;
@@ -55,16 +55,4 @@ pub fn round_trip(symbol: &Symbol, message: &[u8]) -> u32 {
         assert_eq!(&back[answer.length..], [165; 3]);
     }
     written.number
-}
-
-/// Chance for tests: a xorshift generator.
-pub struct Chance(pub u64);
-
-impl Chance {
-    pub fn below(&mut self, bound: usize) -> usize {
-        self.0 ^= self.0 << 13;
-        self.0 ^= self.0 >> 7;
-        self.0 ^= self.0 << 17;
-        (self.0 >> 11) as usize % bound
-    }
 }
