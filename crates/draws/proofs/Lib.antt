@@ -1,4 +1,5 @@
 pub mod Products
 pub mod Backwards
 pub mod LastRule
+pub mod Rounding
 pub mod States

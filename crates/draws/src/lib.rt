@@ -3,7 +3,7 @@ ghost use Prim.Native.Nat.{_*_, _%_, _^_, _≤_, _<_};
 ghost use mathlib.Core.Path.{_≡_};
 ghost use Rattle.draws.specs.Backwards.{previousState};
 ghost use Rattle.symbology.specs.Generator.{nextState, temper, draw, stateAfter};
-ghost use Rattle.symbology.specs.Place.{placeOf};
+ghost use Rattle.symbology.specs.Place.{nearestSingle, placeOf};
 ghost use Rattle.symbology.specs.Shuffle.{drawnPlace};
 
 // The product without its carry, from the products of 32-bit halves. That of the two upper halves
@@ -67,15 +67,28 @@ pub fn draw(s: u64) -> u32
     temper((s >> 32) as u32)
 }
 
-// The place of a draw with n places left, in single precision: the draw, the quotient and the product
-// are rounded once each; n itself is exact. Where the product's whole part is n, the place is n - 1.
+// x rounded to the 24 binary digits of single precision, to nearest, ties to even. Its digits are moved
+// up, so that the first stands at 2^62 and the last one kept at 2^39, rounded there and moved back. The
+// carry is half a unit of the last digit kept, and 1 less where that digit is even.
+fn nearest_single(x: u64) -> u64
+    requires { ⌜ x < 2 ^ 63 ⌝ }
+    ensures { λ r. ⌜ r ≡ nearestSingle x ⌝ }
+{
+    let up = u64::leading_zeros(2 * x + 1);
+    let moved = x << up;
+    let odd = (moved >> 39) % 2;
+    let carry = 274877906943 + odd;
+    (((moved + carry) >> 39) << 39) >> up
+}
+
+// The place of a draw with n places left, as single precision gives it, in whole numbers: the draw and
+// its product with n are rounded once each, and the division by 2^32 rounds nothing. Where the product's
+// whole part is n, the place is n - 1.
 pub fn place(d: u32, n: u32) -> u32
     requires { ⌜ (0 < n) × (n ≤ 4096) ⌝ }
     ensures { λ r. ⌜ (r ≡ placeOf d n) × (r < n) ⌝ }
 {
-    let share = std::num::nearest_u32_to_f32(d) / 4294967296.0;
-    let scaled = share * std::num::nearest_u32_to_f32(n);
-    let whole = std::num::truncating_f32_to_u64(scaled);
+    let whole = nearest_single(nearest_single(d as u64) * n as u64) >> 32;
     if whole == n as u64 {
         n - 1
     } else {

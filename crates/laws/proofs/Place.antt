@@ -3,12 +3,12 @@
 use Prim.Native.Nat.{ℕ, suc, _+_, _-_, _*_, _/_, _^_, _≤_, _<_}
 use mathlib.Core.Path.{_≡_, refl, sym, ap, _∙_, subst}
 use mathlib.Core.Bool.{Bool, true, false, cond, true≢false}
-use native.Mathlib.Nat.{le-trans, le-of-eq, lt-of-le-of-lt, lt-of-lt-of-le, lt-of-mul-lt-mul-right, mul-one, mul-assoc, mul-comm, mul-right-comm, mul-mul-mul-comm, mul-le-mul-right, mul-lt-mul-of-pos-right, mul-pos}
+use native.Mathlib.Nat.{le-trans, le-of-eq, lt-of-le-of-lt, mul-one, mul-assoc, mul-comm, mul-mul-mul-comm, mul-le-mul-right, mul-pos}
 use native.Mathlib.Omega.{arith}
-use lib.Dec.{T, eqb, lt→ltb, lit≤}
+use lib.Dec.{eqb, lit≤}
 use lib.IntN.{pos}
 use lib.Pow.{pow-pos}
-use lib.Ieee.{Float, nan, inf, fin, binary32, up, down, round, mul, div, ofInt, toUnsigned, lt}
+use lib.Ieee.{Float, nan, inf, fin, binary32, up, down, round, mul, div, ofInt, toUnsigned}
 use lib.Ieee.Fits.{down-pos}
 use lib.Ieee.Exact.{HasValue}
 use lib.Ieee.Nearest.{div-same}
@@ -59,24 +59,6 @@ cut-at (fin true m e) a c C v h = absurd (true≢false (v .0))
 cut-at (fin false m e) a c C v h =
     let same : m * up e / down e ≡ a / c = div-same (m * up e) (down e) a c (down-pos e) C (v .1) in
     omega arith
-
--- the bounds of a conversion to an integer of 64 bits
-above-at : (x : Float) (a c : ℕ) → HasValue x false a c → T (lt (fin true 1 (pos 0)) x)
-unfolding lt
-above-at nan a c v = absurd v
-above-at (inf s) a c v = absurd v
-above-at (fin true m e) a c v = absurd (true≢false (v .0))
-above-at (fin false m e) a c v = lt→ltb 0 (1 * 1 * down e + m * up e * 1) (omega (arith, down-pos e))
-
-under-at : (x : Float) (a c : ℕ) → 0 < c → HasValue x false a c → a < 2 ^ 64 * c → T (lt x (fin false 1 (pos 64)))
-unfolding lt
-under-at nan a c C v h = absurd v
-under-at (inf s) a c C v h = absurd v
-under-at (fin true m e) a c C v h = absurd (true≢false (v .0))
-under-at (fin false m e) a c C v h =
-    let crossed : m * up e * c < 2 ^ 64 * down e * c =
-    lt-of-le-of-lt (le-of-eq (v .1)) (lt-of-lt-of-le (mul-lt-mul-of-pos-right h (down-pos e)) (le-of-eq (mul-right-comm (2 ^ 64) c (down e)))) in
-    lt→ltb (m * up e * 1) (1 * 2 ^ 64 * down e) (lt-of-le-of-lt (le-of-eq (mul-one (m * up e))) (lt-of-mul-lt-mul-right c crossed))
 
 -- ---- the scaled draw
 
@@ -130,14 +112,16 @@ times x y r n v w h =
     (round-whole (r * 2 ^ 117 * (n * 2 ^ 149)) (2 ^ 149 * 2 ^ 149) (r * n * 2 ^ 117) (pow-pos 298) same b))
 
 module _ (d n : ℕ) (small : d < 2 ^ 32) (few : n ≤ 4096) where
-  -- the rounded product is at most n * 2 ^ 32
-  product-le : nearestSingle (nearestSingle d * n) ≤ n * 2 ^ 32
-  product-le =
-      single-le (nearestSingle d * n) n 32 (omega arith)
-      (le-trans (mul-le-mul-right n (single-draw d small)) (le-of-eq (mul-comm (2 ^ 32) n)))
+  -- The product of the rounded draw and n is at most n * 2 ^ 32.
+  pub product-most : nearestSingle d * n ≤ n * 2 ^ 32
+  product-most = le-trans (mul-le-mul-right n (single-draw d small)) (le-of-eq (mul-comm (2 ^ 32) n))
 
-  -- The scaled draw is the rounded product of the rounded draw and n, over 2 ^ 32.
-  pub scaled-value : HasValue (scaled d n) false (nearestSingle (nearestSingle d * n) * 2 ^ 117) (2 ^ 149)
+  -- so is the rounded product
+  product-le : nearestSingle (nearestSingle d * n) ≤ n * 2 ^ 32
+  product-le = single-le (nearestSingle d * n) n 32 (omega arith) product-most
+
+  -- the scaled draw is the rounded product of the rounded draw and n, over 2 ^ 32
+  scaled-value : HasValue (scaled d n) false (nearestSingle (nearestSingle d * n) * 2 ^ 117) (2 ^ 149)
   unfolding scaled
   scaled-value =
       let r : ℕ = nearestSingle d in
@@ -168,17 +152,6 @@ module _ (d n : ℕ) (small : d < 2 ^ 32) (few : n ≤ 4096) where
   pub place-whole : placeOf d n ≡ wholePlace d n
   unfolding placeOf wholePlace
   place-whole = ap (λ (r : ℕ). capped r n) raw-whole
-
-  -- The scaled draw is above -1.
-  pub scaled-above : T (lt (fin true 1 (pos 0)) (scaled d n))
-  scaled-above = above-at (scaled d n) (nearestSingle (nearestSingle d * n) * 2 ^ 117) (2 ^ 149) scaled-value
-
-  -- The scaled draw is below 2 ^ 64.
-  pub scaled-under : T (lt (scaled d n) (fin false 1 (pos 64)))
-  scaled-under =
-      let bound : nearestSingle (nearestSingle d * n) ≤ 2 ^ 45 = omega (arith, product-le) in
-      under-at (scaled d n) (nearestSingle (nearestSingle d * n) * 2 ^ 117) (2 ^ 149) (pow-pos 149) scaled-value
-      (lt-of-le-of-lt (mul-le-mul-right (2 ^ 117) bound) (lit≤ tt))
 
 -- With n places left, from 1 to 4,096, the place of a draw is below n.
 pub place-lt : (d n : ℕ) → d < 2 ^ 32 → 0 < n → n ≤ 4096 → placeOf d n < n

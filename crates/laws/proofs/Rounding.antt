@@ -1,11 +1,14 @@
 -- Laws of rounding a whole number to the 24 binary digits of single precision.
 -- Assumes nothing.
-use Prim.Native.Nat.{ℕ, zero, suc, _+_, _-_, _*_, _/_, _%_, _^_, _≤_, _<_, compare, Ordering, Ordering·lt, compare·zero-suc}
-use mathlib.Core.Path.{_≡_, refl, sym, ap, _∙_}
-use native.Mathlib.Nat.{le-trans, le-of-eq, le-refl, lt-of-lt-of-le, lt-of-le-of-lt, lt-of-not-le, not-le-of-lt, mul-one, one-mul, mul-assoc, mul-comm, mul-le-mul-right, mul-pos, mul-div-cancel, mul-mod-left}
+use Prim.Native.Nat.{ℕ, suc, _+_, _-_, _*_, _/_, _%_, _^_, _≤_, _<_, compare, Ordering, Ordering·lt, Ordering·eq, Ordering·gt}
+use mathlib.Core.Path.{_≡_, refl, sym, ap, _∙_, subst}
+use mathlib.Core.Bool.{not}
+use native.Mathlib.Nat.{le-trans, le-of-eq, le-refl, lt-of-lt-of-le, lt-of-le-of-lt, lt-of-not-le, not-le-of-lt, mul-one, one-mul, mul-assoc, mul-comm, mul-le-mul-right, mul-pos, mul-div-cancel, mul-mod-left, div-add-mod', mod-lt, pow-suc}
 use native.Mathlib.Omega.{arith}
 use native.Mathlib.Decide.{decLe, decLt}
-use lib.Pow.{pow-add, pow-pos, pow-mono, shl-lt}
+use lib.Arith.{lt-of-le-ne}
+use lib.Dec.{T, isLe, isEq, eqb, leb→le, nleb→lt, eqb→eq, eqb-refl}
+use lib.Pow.{pow-add, pow-pos, pow-mono, shl-lt, high}
 use lib.Ieee.{size, nearest, binary32}
 use lib.Ieee.Digits.{size-lt, size-le, size-reaches, back}
 use lib.Ieee.Fits.{kept-lt, nearest-le}
@@ -15,15 +18,28 @@ use Rattle.symbology.specs.Place.{nearestSingle}
 
 -- ---- whole quotients
 
-above-zero : (u : ℕ) → 0 < u → compare 0 u ≡ Ordering·lt
-above-zero zero h = absurd (omega arith)
-above-zero (suc u) h = compare·zero-suc u
+-- what holds of the nearest whole number by each of its three cases
+closest-cases : (P : ℕ → Type 0) (x u : ℕ)
+    → (x % u * 2 < u → P (x / u))
+    → (x % u * 2 ≡ u → P (x / u + x / u % 2))
+    → (u < x % u * 2 → P (suc (x / u)))
+    → P (closest x u)
+closest-cases P x u less half more =
+    go (compare r u) (leb→le r u) (nleb→lt r u) (eqb→eq r u) (λ (e : r ≡ u). subst (λ (v : ℕ). T (eqb r v)) e (eqb-refl r))
+  where
+    r : ℕ
+    r = x % u * 2
+
+    go : (o : Ordering) → (T (isLe o) → r ≤ u) → (T (not (isLe o)) → u < r) → (T (isEq o) → r ≡ u) → (r ≡ u → T (isEq o))
+        → P (nearest (x / u) o)
+    go Ordering·lt h k e n = less (lt-of-le-ne (h tt) n)
+    go Ordering·eq h k e n = half (e tt)
+    go Ordering·gt h k e n = more (k tt)
 
 closest-whole : (r u : ℕ) → 0 < u → closest (r * u) u ≡ r
 closest-whole r u h =
-    ap (λ (x : ℕ). nearest x (compare (r * u % u * 2) u)) (mul-div-cancel r h)
-    ∙ ap (λ (x : ℕ). nearest r (compare (x * 2) u)) (mul-mod-left r u)
-    ∙ ap (λ (o : Ordering). nearest r o) (above-zero u h)
+    let rest : r * u % u ≡ 0 = mul-mod-left r u in
+    closest-cases (λ (v : ℕ). v ≡ r) (r * u) u (λ l. mul-div-cancel r h) (λ e. absurd (omega arith)) (λ m. absurd (omega arith))
 
 -- q * 2 ^ j in units of 2 ^ k
 in-units : (q j k : ℕ) → k ≤ j → q * 2 ^ (j - k) * 2 ^ k ≡ q * 2 ^ j
@@ -78,10 +94,12 @@ single-twice a = rw (is a) (exact-up-to (closest a (2 ^ (size a - 24))) (size a 
 
 -- ---- zeros behind
 
-size-gt : (n j : ℕ) → 2 ^ j ≤ n → j < size n
+-- A number from 2 ^ j on has more than j digits.
+pub size-gt : (n j : ℕ) → 2 ^ j ≤ n → j < size n
 size-gt n j h = lt-of-not-le (λ (g : size n ≤ j). not-le-of-lt (lt-of-lt-of-le (size-lt n) (pow-mono g)) h)
 
-size-shifted : (a t : ℕ) → 0 < size a → size (a * 2 ^ t) ≡ size a + t
+-- Zeros behind a number are digits more.
+pub size-shifted : (a t : ℕ) → 0 < size a → size (a * 2 ^ t) ≡ size a + t
 size-shifted a t h =
     let z : ℕ = size a in
     let up : size (a * 2 ^ t) ≤ z + t = size-le (a * 2 ^ t) (z + t) (shl-lt z t (size-lt a)) in
@@ -123,3 +141,37 @@ grid-whole num den n pos e =
     ap (λ (x : ℕ). closest x (den * 2 ^ (size (x / den) - 24)) * 2 ^ (size (x / den) - 24)) e
     ∙ ap (λ (x : ℕ). closest (n * den) (den * 2 ^ (size x - 24)) * 2 ^ (size x - 24)) (mul-div-cancel n pos)
     ∙ ap (λ (x : ℕ). x * 2 ^ k) (closest-same (n * den) (den * 2 ^ k) n (2 ^ k) (mul-pos pos (pow-pos k)) (pow-pos k) (mul-assoc n den (2 ^ k)))
+
+-- ---- rounding by a carry
+
+-- k digits cut off
+cut-off : (x k q s : ℕ) → x ≡ q * 2 ^ k + s → s < 2 ^ k → x / 2 ^ k ≡ q
+cut-off x k q s e h = ap (λ (z : ℕ). z / 2 ^ k) e ∙ high q k h
+
+-- the nearest multiple of 2 ^ suc k: half of that is added, less 1 where the quotient is even, and k + 1 digits are cut off
+carried : (x k : ℕ) → closest x (2 ^ suc k) ≡ (x + (2 ^ k - 1 + x / 2 ^ suc k % 2)) / 2 ^ suc k
+carried x k =
+    let u : ℕ = 2 ^ suc k in
+    let q : ℕ = x / u in
+    let r : ℕ = x % u in
+    let c : ℕ = 2 ^ k - 1 + q % 2 in
+    let even : u ≡ 2 ^ k * 2 = pow-suc 2 k in
+    let some : 0 < 2 ^ k = pow-pos k in
+    let whole : q * u + r ≡ x = div-add-mod' x u in
+    let rest : r < u = mod-lt x (pow-pos (suc k)) in
+    let down : r + c < u → (x + c) / u ≡ q = λ h. cut-off (x + c) (suc k) q (r + c) (omega arith) h in
+    let up : u ≤ r + c → (x + c) / u ≡ suc q = λ h. cut-off (x + c) (suc k) (suc q) (r + c - u) (omega arith) (omega arith) in
+    closest-cases (λ (v : ℕ). v ≡ (x + c) / u) x u (λ h. sym (down (omega arith)))
+    (λ h.
+    elim (decLt (q % 2) 1) [
+      | yes z ↦ let e : q + q % 2 ≡ q = omega arith in e ∙ sym (down (omega arith))
+      | no z ↦ let e : q + q % 2 ≡ suc q = omega arith in e ∙ sym (up (omega arith))
+    ])
+    (λ h. sym (up (omega arith)))
+
+-- A number of 25 + k digits is rounded by a carry into the first 24: half a unit of the last of them, less 1 where that is even.
+pub single-carried : (x k : ℕ) → size x ≡ 25 + k → nearestSingle x ≡ (x + (2 ^ k - 1 + x / 2 ^ suc k % 2)) / 2 ^ suc k * 2 ^ suc k
+unfolding nearestSingle
+single-carried x k digits =
+    let e : size x - 24 ≡ suc k = omega arith in
+    ap (λ (j : ℕ). closest x (2 ^ j) * 2 ^ j) e ∙ ap (λ (v : ℕ). v * 2 ^ suc k) (carried x k)
