@@ -3,7 +3,8 @@
  * One primary or secondary symbol of 4 or 8 colours, as ISO/IEC 23634 and BSI TR-03137-2 define it. Each call answers every
  * input; what it answers and what it leaves in each buffer is proved equal to a definition (crates/jabcode_c). No call keeps
  * anything between calls, allocates memory, or calls anything but memset; two calls with different buffers may run at once.
- * As compiled, the stack frames of all functions together take less than 4 KB, and none calls itself.
+ * As compiled, the stack frames of all functions together take less than 4 KB, none calls itself, and there is no floating
+ * arithmetic.
  *
  * What the caller owes, and no call can test:
  * - A pointer is not null, also where its length is 0, is aligned for its type, and points at as many elements as the length
