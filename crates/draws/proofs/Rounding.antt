@@ -1,5 +1,5 @@
--- Rounding to single precision by shifts of 64-bit numbers: the leading zeros say how far the digits are moved up, no shift loses
--- one, and a number that is moved is rounded as it was. Assumes nothing.
+-- Rounding to single precision by shifts of 64-bit numbers: the leading zeros say how far the digits are moved up, the move loses
+-- none, and a number that is moved is rounded as it was. Assumes nothing.
 use Prim.Native.Nat.{ℕ, zero, suc, _+_, _-_, _*_, _/_, _%_, _^_, _≤_, _<_}
 use mathlib.Core.Path.{_≡_, sym, ap, _∙_}
 use native.Mathlib.Nat.{pow-suc, zero-mul}

@@ -82,8 +82,8 @@ fn nearest_single(x: u64) -> u64
 }
 
 // The place of a draw with n places left, as single precision gives it, in whole numbers: the draw and
-// its product with n are rounded once each, and the division by 2^32 rounds nothing. Where the product's
-// whole part is n, the place is n - 1.
+// its product with n are rounded once each, and the division by 2^32 rounds nothing. Where its whole
+// part is n, the place is n - 1.
 pub fn place(d: u32, n: u32) -> u32
     requires { ⌜ (0 < n) × (n ≤ 4096) ⌝ }
     ensures { λ r. ⌜ (r ≡ placeOf d n) × (r < n) ⌝ }

@@ -148,7 +148,7 @@ grid-whole num den n pos e =
 cut-off : (x k q s : ℕ) → x ≡ q * 2 ^ k + s → s < 2 ^ k → x / 2 ^ k ≡ q
 cut-off x k q s e h = ap (λ (z : ℕ). z / 2 ^ k) e ∙ high q k h
 
--- the nearest multiple of 2 ^ suc k: half of that is added, less 1 where the quotient is even, and k + 1 digits are cut off
+-- the nearest whole quotient by 2 ^ suc k: half of that power is added, less 1 where the quotient is even, and k + 1 digits are cut off
 carried : (x k : ℕ) → closest x (2 ^ suc k) ≡ (x + (2 ^ k - 1 + x / 2 ^ suc k % 2)) / 2 ^ suc k
 carried x k =
     let u : ℕ = 2 ^ suc k in

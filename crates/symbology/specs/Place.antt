@@ -23,7 +23,7 @@ capped raw n = cond (eqb raw n) (n - 1) raw
 unfoldable pub placeOf : ℕ → ℕ → ℕ
 placeOf d n = capped (rawPlace d n) n
 
--- ---- the same in whole numbers; that it is the same is a law
+-- ---- the same in whole numbers, as the code works it (02, W-203); that it is the same is the law `place-whole`
 
 -- a whole number rounded to the 24 binary digits of single precision, to nearest, ties to even
 unfoldable pub nearestSingle : ℕ → ℕ
