@@ -30,6 +30,7 @@ pub mod Elimination
 pub mod Spare
 pub mod Codeword
 pub mod Agree
+pub mod BitwiseSum
 -- the rule
 pub mod Rule
 pub mod Steps
@@ -45,6 +46,9 @@ pub mod Stages
 pub mod Answers
 pub mod RoundTrip
 pub mod Mending
+-- for teaching
+pub mod Teaching
 -- whole symbols, computed
 pub mod WholeSymbol
 pub mod Rectangle
+pub mod TeachingExamples

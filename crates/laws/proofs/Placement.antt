@@ -24,8 +24,8 @@ use Rattle.symbology.specs.Capacity.{bitsPerModule}
 use Rattle.symbology.specs.Parameters.{inRange}
 use Rattle.symbology.specs.Patterns.{patternColour}
 use Rattle.symbology.specs.Reserved.{entries, entryColour, firstEntry}
-use Rattle.symbology.specs.Placement.{patternCell, cellOf, isData, cellAt, columnData, rank, maskAt, dataModule, onCell, moduleAt, filled, cellBits, bitsAt, sampled, taken, firstBadModule}
-use Rattle.laws.proofs.Ranges.{lowest-none, length-tabulate, getD-tabulate}
+use Rattle.symbology.specs.Placement.{patternCell, cellOf, isData, cellAt, columnData, rank, maskAt, unmaskedIndex, dataModule, onCell, moduleAt, filled, unmasked, masked, cellBits, bitsAt, sampled, taken, firstBadModule}
+use Rattle.laws.proofs.Ranges.{lowest-none, length-tabulate, tabulate-ext, getD-tabulate}
 use Rattle.laws.proofs.Sums.{sum-ext, sum-scale, length-join, join-snoc}
 use Rattle.laws.proofs.Bits.{length-bits, bits-take, bits-are, drop-bits, value-take, join-bits}
 use Rattle.laws.proofs.Parameters.{InRange, ranges, depth-power}
@@ -51,6 +51,42 @@ pub getD-filled : (p : Params) (l bs : List ℕ) (c r : ℕ) → c < columns p �
 getD-filled p l bs c r h k =
     getD-index p l bs (r * columns p + c) (digits-lt k h) ∙ rw (digits-mod r h, digits-div r h)
 
+-- ---- the mask, put on a whole matrix
+
+-- A module of a masked matrix.
+pub getD-masked : (p : Params) (l : List ℕ) (mask : ℕ) (matrix : List ℕ) (i : ℕ) → i < rows p * columns p
+    → let c = i % columns p in let r = i / columns p in
+    getD (masked p l mask matrix) i 0
+    ≡ cond (isData (cellAt p l c r)) (bitXor (getD matrix i 0) (maskAt mask (p .colours) c r)) (getD matrix i 0)
+unfolding masked
+getD-masked p l mask matrix i h = getD-tabulate (rows p * columns p) _ 0 i h
+
+-- A masked matrix has a module for each row and column.
+pub length-masked : (p : Params) (l : List ℕ) (mask : ℕ) (matrix : List ℕ) → length (masked p l mask matrix) ≡ rows p * columns p
+unfolding masked
+length-masked p l mask matrix = length-tabulate (rows p * columns p) _
+
+-- A matrix filled without a mask has a module for each row and column.
+pub length-unmasked : (p : Params) (l bs : List ℕ) → length (unmasked p l bs) ≡ rows p * columns p
+unfolding unmasked
+length-unmasked p l bs = length-tabulate (rows p * columns p) _
+
+-- The filled matrix is what is filled without a mask, masked with the mask of the parameters.
+pub filled-masked : (p : Params) (l bs : List ℕ) → filled p l bs ≡ masked p l (p .mask) (unmasked p l bs)
+unfolding filled masked unmasked moduleAt dataModule isData onCell
+filled-masked p l bs =
+    tabulate-ext (rows p * columns p) _ _ (λ i h.
+    let c : ℕ = i % columns p in
+    let r : ℕ = i / columns p in
+    let v : ℕ = unmaskedIndex p l bs c r in
+    let m : ℕ = maskAt (p .mask) (p .colours) c r in
+    let plain : getD (unmasked p l bs) i 0 ≡ onCell (cellAt p l c r) v = getD-tabulate (rows p * columns p) _ 0 i h in
+    rw plain (go (cellAt p l c r) v m))
+  where
+    go : (z : Cell) (v m : ℕ) → onCell z (bitXor v m) ≡ cond (isData z) (bitXor (onCell z v) m) (onCell z v)
+    go Data v m = refl
+    go (Fixed f) v m = refl
+
 -- ---- every module filled is a colour index
 
 -- a pattern's module, and any cell's, holds a colour index where v and those of the list are colour indices
@@ -74,7 +110,7 @@ cell-below p l x y v e own h = go (ltb (firstEntry l (entries l) x y) (entries l
 -- each module is a colour index where those of the list are
 pub module-below : (p : Params) (l bs : List ℕ) → inRange p ≡ true → ((k : ℕ) → k < entries l → entryColour l k < p .colours) → (c r : ℕ)
     → moduleAt p l bs c r < p .colours
-unfolding moduleAt dataModule
+unfolding moduleAt unmaskedIndex dataModule
 module-below p l bs e own c r =
     let depth : ℕ = bitsPerModule (p .colours) in
     let power : p .colours ≡ 2 ^ depth = depth-power (p .colours) (ranges p e .colours-are) in
@@ -205,7 +241,7 @@ module _ (p : Params) (l bs : List ℕ) (are : AllBits bs) (size : length bs ≡
   module-filled : (c r : ℕ) → c < columns p → r < rows p
       → bitsAt p l (filled p l bs) c r
       ≡ take (bitsPerModule (p .colours) * tally (isData (cellAt p l c r))) (drop (bitsPerModule (p .colours) * rank p l c r) bs)
-  unfolding bitsAt moduleAt dataModule onCell cellBits isData
+  unfolding bitsAt moduleAt unmaskedIndex dataModule onCell cellBits isData
   module-filled c r h k = rw (getD-filled p l bs c r h k) (go (cellAt p l c r) (bits-inside p l c r h k))
     where
       go : (z : Cell)

@@ -11,7 +11,7 @@ use Rattle.symbology.specs.Sides.{coreTable, coresOf}
 use Rattle.symbology.specs.Patterns.{nearCore, cornerAlignment, innerAlignment, patternOf, inSquares, colourIn, meeting, patternAt, patternColour}
 use Rattle.symbology.specs.Reserved.{entryAt, firstEntry}
 use Rattle.symbology.specs.Capacity.{bitsPerModule}
-use Rattle.symbology.specs.Placement.{patternCell, cellOf, isData, columnData, rank, maskGenerators, maskAt, dataModule, onCell, moduleAt, filled}
+use Rattle.symbology.specs.Placement.{patternCell, cellOf, isData, columnData, rank, maskGenerators, maskAt, unmaskedIndex, dataModule, onCell, moduleAt, filled}
 use Rattle.symbology.proofs.Parameters.{paramsOf}
 
 -- a secondary symbol of 25 columns and 21 rows with 4 colours, mask 7 and turn 1
@@ -19,7 +19,7 @@ rectangle : Params
 rectangle = paramsOf (1 ∷ 2 ∷ 1 ∷ 4 ∷ 0 ∷ 1 ∷ 2 ∷ 3 ∷ 4 ∷ 7 ∷ 1 ∷ [])
 
 matrix : List ℕ
-unfolding rectangle sumFrom joinFrom tabulate lowest value coreTable coresOf nearCore cornerAlignment innerAlignment patternOf inSquares colourIn meeting patternAt patternColour entryAt firstEntry bitsPerModule patternCell cellOf isData columnData rank maskGenerators maskAt dataModule onCell moduleAt filled
+unfolding rectangle sumFrom joinFrom tabulate lowest value coreTable coresOf nearCore cornerAlignment innerAlignment patternOf inSquares colourIn meeting patternAt patternColour entryAt firstEntry bitsPerModule patternCell cellOf isData columnData rank maskGenerators maskAt unmaskedIndex dataModule onCell moduleAt filled
 matrix =
     let filling : List ℕ = joinFrom 0 9 (λ i. 1 ∷ 0 ∷ 1 ∷ 1 ∷ 0 ∷ 0 ∷ 1 ∷ 0 ∷ 0 ∷ 1 ∷ []) in
     filled rectangle (5 ∷ 2 ∷ 3 ∷ []) filling

@@ -28,7 +28,7 @@ use Rattle.symbology.specs.Rule.{bitSum, unmet, unmetCount, unmetAt, metAt, isS
 use Rattle.symbology.specs.Codeword.{isSum, checkColumns, isCheckColumn, messageColumns, carries, words, firstWord, codeword, messageBits}
 use Rattle.symbology.specs.Stream.{readCode, readCodes, decode, byteRuns, byteStream}
 use Rattle.symbology.specs.Net.{withEndMark, upToLastOne, streamIn, stuffing}
-use Rattle.symbology.specs.Placement.{patternCell, cellOf, isData, columnData, rank, maskGenerators, maskAt, dataModule, onCell, moduleAt, filled, cellBits, bitsAt, sampled, firstBadModule}
+use Rattle.symbology.specs.Placement.{patternCell, cellOf, isData, columnData, rank, maskGenerators, maskAt, unmaskedIndex, dataModule, onCell, moduleAt, filled, cellBits, bitsAt, sampled, firstBadModule}
 use Rattle.symbology.specs.Tests.{firstOf, sizeTests, bufferTests, frontTests, sizesFor}
 use Rattle.symbology.specs.Write.{codewordFor, placedBits, writtenMatrix}
 use Rattle.symbology.specs.Read.{receivedBits, sameBits, wrongStuffing, checksFor, messageBitsFor, answerFromNet, answerFromAccepted, answerFromReceived, answerFromMatrix, readAnswer}
@@ -36,7 +36,7 @@ use Rattle.symbology.proofs.Parameters.{paramsOf}
 
 -- ---- the symbol
 
-symbol : Params
+unfoldable pub symbol : Params
 symbol = paramsOf (0 ∷ 1 ∷ 1 ∷ 8 ∷ 0 ∷ 3 ∷ 2 ∷ 3 ∷ 4 ∷ 6 ∷ 0 ∷ [])
 
 -- the three data modules, at columns and rows counted from 1
@@ -44,7 +44,7 @@ isLeft : ℕ → ℕ → Bool
 isLeft x y = eqb x 1 && eqb y 1 || eqb x 10 && eqb y 10 || eqb x 21 && eqb y 20
 
 -- an entry for every other module that no pattern covers
-reserved : List ℕ
+unfoldable pub reserved : List ℕ
 unfolding symbol isLeft joinFrom coreTable coresOf nearCore finder patternOf inSquares colourIn meeting patternAt covered patternColour
 reserved =
     joinFrom 1 21 (λ x. joinFrom 1 21 (λ y. cond (covered (patternColour symbol x y) || isLeft x y) [] (x ∷ y ∷ ((x + y) % 8) ∷ [])))
@@ -53,8 +53,11 @@ sizes : Sizes
 unfolding reserved lowest innerPatterns bitsPerModule patternModules dataModules asBits capacity sizesOf
 sizes = sizesFor symbol reserved
 
-the-sizes : sizes
-    ≡ record { columns = 21; rows = 21; depth = 3; capacity = 9; wr = 4; block = 2; gross = 8; checks = 6; net = 2; work = 78 }
+-- its sizes
+abbrev pub small : Sizes
+small = record { columns = 21; rows = 21; depth = 3; capacity = 9; wr = 4; block = 2; gross = 8; checks = 6; net = 2; work = 78 }
+
+pub the-sizes : sizesFor symbol reserved ≡ small
 unfolding sizes
 the-sizes = refl
 
@@ -71,7 +74,7 @@ unfolding placed
 the-placed = refl
 
 written : List ℕ
-unfolding placed sumFrom value entryAt firstEntry patternCell cellOf isData columnData rank maskGenerators maskAt dataModule onCell moduleAt filled writtenMatrix
+unfolding placed sumFrom value entryAt firstEntry patternCell cellOf isData columnData rank maskGenerators maskAt unmaskedIndex dataModule onCell moduleAt filled writtenMatrix
 written =
     let l = reserved in
     writtenMatrix symbol l []

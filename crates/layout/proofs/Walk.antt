@@ -19,7 +19,7 @@ use Rattle.symbology.specs.Parameters.{inRange}
 use Rattle.symbology.specs.Reserved.{listVerdict}
 use Rattle.symbology.specs.Sides.{columns, rows}
 use Rattle.symbology.specs.Capacity.{bitsPerModule}
-use Rattle.symbology.specs.Placement.{isData, cellAt, rank, maskAt, dataModule, onCell, moduleAt, cellBits, bitsAt}
+use Rattle.symbology.specs.Placement.{isData, cellAt, rank, maskAt, unmaskedIndex, dataModule, onCell, moduleAt, cellBits, bitsAt}
 use Rattle.laws.proofs.Parameters.{InRange, ranges, depth-some}
 use Rattle.laws.proofs.Ranks.{rank-next}
 use Rattle.laws.proofs.Placement.{bits-inside}
@@ -90,7 +90,7 @@ module _ {p : Params} {l : List ℕ} {cores : SideCores} {size modules c r k : �
       → mask ≡ maskAt (p .mask) (p .colours) c r
       → cellAt p l c r ≡ Data
       → bitXor v mask ≡ moduleAt p l bs c r
-  unfolding moduleAt onCell dataModule
+  unfolding moduleAt onCell unmaskedIndex dataModule
   data-module bs depth v mask ed ev em e = rw (e, ev, em, ed, w .ranked)
 
   -- ---- the bits of the module

@@ -5,6 +5,7 @@ use mathlib.Core.Bool.{Bool, false, _||_}
 use mathlib.Core.List.{List, [], _∷_, _++_}
 use lib.ListN.{length, getD}
 use lib.Dec.{eqb}
+use Rattle.symbology.specs.Ranges.{tabulate}
 
 -- each element of the list is a bit; past its end stands 0
 abbrev pub AllBits : List ℕ → Type 0
@@ -28,3 +29,7 @@ bits (suc w) n = bits w (n / 2) ++ (n % 2 ∷ [])
 unfoldable pub anyOne : List ℕ → Bool
 anyOne [] = false
 anyOne (b ∷ bs) = eqb (b % 2) 1 || anyOne bs
+
+-- document 02, W-207: the bitwise sum of two words of one length
+unfoldable pub bitwiseSum : List ℕ → List ℕ → List ℕ
+bitwiseSum x y = tabulate (length x) (λ i. (getD x i 0 + getD y i 0) % 2)

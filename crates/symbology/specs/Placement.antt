@@ -70,13 +70,17 @@ maskGenerators x y =
 unfoldable pub maskAt : ℕ → ℕ → ℕ → ℕ → ℕ
 maskAt mask colours x y = getD (maskGenerators x y) mask 0 % colours
 
--- ---- filling and sampling
+-- ---- filling
 
--- the colour index of the data module (c, r), masked: the first bit of a module is its highest
-unfoldable pub dataModule : Params → List ℕ → List ℕ → ℕ → ℕ → ℕ
-dataModule p l bs c r =
+-- the colour index of the data module (c, r) before its mask: the first bit of a module is its highest
+unfoldable pub unmaskedIndex : Params → List ℕ → List ℕ → ℕ → ℕ → ℕ
+unmaskedIndex p l bs c r =
     let depth = bitsPerModule (p .colours) in
-    bitXor (value (take depth (drop (depth * rank p l c r) bs))) (maskAt (p .mask) (p .colours) c r)
+    value (take depth (drop (depth * rank p l c r) bs))
+
+-- the colour index of the data module (c, r), masked
+unfoldable pub dataModule : Params → List ℕ → List ℕ → ℕ → ℕ → ℕ
+dataModule p l bs c r = bitXor (unmaskedIndex p l bs c r) (maskAt (p .mask) (p .colours) c r)
 
 -- the mask changes data modules only
 unfoldable pub onCell : Cell → ℕ → ℕ
@@ -90,6 +94,27 @@ moduleAt p l bs c r = onCell (cellAt p l c r) (dataModule p l bs c r)
 -- the whole matrix, row after row
 unfoldable pub filled : Params → List ℕ → List ℕ → List ℕ
 filled p l bs = tabulate (rows p * columns p) (λ i. moduleAt p l bs (i % columns p) (i / columns p))
+
+-- ---- masking by itself (document 02, W-207)
+
+-- the whole matrix without a mask
+unfoldable pub unmasked : Params → List ℕ → List ℕ → List ℕ
+unmasked p l bs =
+    tabulate (rows p * columns p) (λ i.
+    let c = i % columns p in
+    let r = i / columns p in
+    onCell (cellAt p l c r) (unmaskedIndex p l bs c r))
+
+-- a matrix with a mask put on its data modules, whatever its modules hold; the others stay as they are
+unfoldable pub masked : Params → List ℕ → ℕ → List ℕ → List ℕ
+masked p l mask matrix =
+    tabulate (rows p * columns p) (λ i.
+    let c = i % columns p in
+    let r = i / columns p in
+    let v = getD matrix i 0 in
+    cond (isData (cellAt p l c r)) (bitXor v (maskAt mask (p .colours) c r)) v)
+
+-- ---- sampling
 
 -- what is no data module gives no bits
 unfoldable pub cellBits : Cell → List ℕ → List ℕ

@@ -1,0 +1,73 @@
+-- What `ldpc::encode` asks for and stores, where none of the tests 1 to 3 applies.
+-- Assumes nothing.
+use Prim.Native.Nat.{ℕ, _*_, _≤_}
+use mathlib.Core.Path.{_≡_, refl, sym, ap, ap₂, _∙_, subst, subst⁻¹}
+use mathlib.Core.Bool.{true}
+use mathlib.Core.List.{List}
+use native.Mathlib.Omega.{arith}
+use lib.ListN.{length}
+use Rattle.symbology.specs.declared.Params.{Params}
+use Rattle.symbology.specs.declared.Sizes.{Sizes}
+use Rattle.symbology.specs.declared.SizesAnswer.{SizesAnswer}
+use Rattle.symbology.specs.Bits.{AllBits, bitwiseSum}
+use Rattle.symbology.specs.Parameters.{inRange}
+use Rattle.symbology.specs.Tests.{sizesFor}
+use Rattle.symbology.specs.SizesAnswer.{noSizes, theSizes, sizesAnswer}
+use Rattle.symbology.specs.Write.{codewordFor}
+use Rattle.laws.proofs.Tests.{Legal, sizes-each, legal-is}
+use Rattle.laws.proofs.Teaching.{codeword-of-sum}
+use Rattle.lent.proofs.Buffer.{length-part}
+use Rattle.ldpc.specs.Work.{areasOf, CodeSizes, wordFor, netFor}
+use Rattle.ldpc.specs.Stages.{Encoded}
+use Rattle.ldpc.proofs.Work.{legal-sizes, net-inside}
+
+module _ (p : Params) (l : List ℕ) (passed : sizesAnswer p l .number ≡ 0) where
+  -- with buffers of the symbol's sizes the input is legal
+  sized : Legal p l (sizesFor p l .columns * sizesFor p l .rows) (sizesFor p l .work)
+  unfolding sizesAnswer
+  sized =
+      let s : Sizes = sizesFor p l in
+      sizes-each noSizes p l (λ (a : SizesAnswer). a .number ≡ 0 → Legal p l (s .columns * s .rows) (s .work))
+      (theSizes (sizesFor p l)) (λ n low high z. absurd (omega arith)) (λ z. absurd (omega arith)) (λ k z. k) passed
+
+  pub range-passed : inRange p ≡ true
+  range-passed = sized .in-range
+
+  code-sizes : CodeSizes (sizesFor p l)
+  code-sizes =
+      let s : Sizes = sizesFor p l in
+      legal-sizes p l (s .columns * s .rows) (s .work) (legal-is p l (s .columns * s .rows) (s .work) sized) refl .0
+
+  net-long : (work : List ℕ) → sizesFor p l .work ≤ length work → length (netFor (sizesFor p l) work) ≡ sizesFor p l .net
+  net-long work h = length-part work (areasOf (sizesFor p l) .message) (sizesFor p l .net) (net-inside code-sizes h refl)
+
+  module _ {s : Sizes} (same : s ≡ sizesFor p l) where
+    -- what encoding asks of a work buffer
+    pub encode-asks : (work : List ℕ)
+        → sizesFor p l .work ≤ length work
+        → AllBits (netFor (sizesFor p l) work)
+        → CodeSizes s × (s .work ≤ length work) × AllBits (netFor s work)
+    encode-asks work long bits =
+        subst⁻¹ (λ (t : Sizes). CodeSizes t × (t .work ≤ length work) × AllBits (netFor t work)) same (code-sizes, long, bits)
+
+    word-stored : {before after : List ℕ}
+        → Encoded s before after
+        → wordFor (sizesFor p l) after ≡ codewordFor (sizesFor p l) (netFor (sizesFor p l) before)
+    word-stored {before} {after} e = subst (λ (t : Sizes). wordFor t after ≡ codewordFor t (netFor t before)) same (e .word-is)
+
+    -- Where the net bits add up, so do the words stored for them.
+    pub words-add : {x x′ y y′ z z′ : List ℕ}
+        → sizesFor p l .work ≤ length x
+        → sizesFor p l .work ≤ length y
+        → AllBits (netFor (sizesFor p l) x)
+        → AllBits (netFor (sizesFor p l) y)
+        → Encoded s x x′
+        → Encoded s y y′
+        → Encoded s z z′
+        → netFor (sizesFor p l) z ≡ bitwiseSum (netFor (sizesFor p l) x) (netFor (sizesFor p l) y)
+        → wordFor (sizesFor p l) z′ ≡ bitwiseSum (wordFor (sizesFor p l) x′) (wordFor (sizesFor p l) y′)
+    words-add {x} {x′} {y} long-x long-y bits-x bits-y first second third sum =
+        word-stored third
+        ∙ ap (codewordFor (sizesFor p l)) sum
+        ∙ codeword-of-sum p l (netFor (sizesFor p l) x) (netFor (sizesFor p l) y) bits-x bits-y (net-long x long-x) (net-long y long-y)
+        ∙ sym (ap₂ bitwiseSum (word-stored first) (word-stored second))

@@ -1,0 +1,3 @@
+mod Encoding
+mod Shuffling
+mod Filling

@@ -1,0 +1,52 @@
+// Laws for teaching (document 02, W-207), said of the functions that the library is made of. A function here
+// calls one of them, and its contract is the law. Its proof knows of the function called what every caller
+// knows, which is that function's contract.
+use symbology::Params;
+ghost use Prim.Native.Nat.{_*_, _≤_};
+ghost use mathlib.Core.Path.{_≡_};
+ghost use mathlib.Core.Bool.{true};
+ghost use lib.ListN.{length};
+ghost use Rattle.symbology.specs.declared.ListVerdict.the-variants.{Sound};
+ghost use Rattle.symbology.specs.Bits.{AllBits, bitwiseSum};
+ghost use Rattle.symbology.specs.Parameters.{inRange};
+ghost use Rattle.symbology.specs.Sides.{columns, rows};
+ghost use Rattle.symbology.specs.Reserved.{listVerdict};
+ghost use Rattle.symbology.specs.Placement.{unmasked, masked};
+ghost use Rattle.symbology.specs.Tests.{sizesFor};
+ghost use Rattle.symbology.specs.SizesAnswer.{sizesAnswer};
+ghost use Rattle.ldpc.specs.Work.{wordFor, netFor};
+
+// The codeword of a sum is the sum of the codewords: where the net bits of one work buffer are the sum of
+// those of two others, so is the word that `ldpc::encode` stores in it. None of the tests 1 to 3 applies to
+// parameters and list, and each work buffer is long enough for test 5.
+pub fn encode_sum(p: Params, list: &[u16], x: &mut [u8], y: &mut [u8], sum: &mut [u8])
+    requires { ⌜ sizesAnswer p (now list) .number ≡ 0 ⌝ }
+    requires { ⌜ (let s = sizesFor p (now list) in (s .work ≤ length (now x)) × (s .work ≤ length (now y)) × (s .work ≤ length (now sum))) ⌝ }
+    requires { ⌜ (let s = sizesFor p (now list) in AllBits (netFor s (now x)) × AllBits (netFor s (now y)) × AllBits (netFor s (now sum))) ⌝ }
+    ensures { λ _. ⌜ (let s = sizesFor p (now (list .entry)) in netFor s (now (sum .entry)) ≡ bitwiseSum (netFor s (now (x .entry))) (netFor s (now (y .entry))) → wordFor s (now (sum .exit)) ≡ bitwiseSum (wordFor s (now (x .exit))) (wordFor s (now (y .exit)))) ⌝ }
+{
+    let s = capacity::sizes_of(p, list.len() / 3);
+    ldpc::encode(x, s);
+    ldpc::encode(y, s);
+    ldpc::encode(sum, s);
+}
+
+// The interleaving of a sum is the sum of the interleavings: where a word is the sum of two others, it still
+// is when `shuffle::shuffle` has permuted all three from one state. They have at most 4,096 bytes each.
+pub fn shuffle_sum(x: &mut [u8], y: &mut [u8], sum: &mut [u8], state: u64)
+    requires { ⌜ (length (now x) ≡ length (now sum)) × (length (now y) ≡ length (now sum)) × (length (now sum) ≤ 4096) ⌝ }
+    ensures { λ _. ⌜ (now (sum .entry) ≡ bitwiseSum (now (x .entry)) (now (y .entry)) → now (sum .exit) ≡ bitwiseSum (now (x .exit)) (now (y .exit))) ⌝ }
+{
+    shuffle::shuffle(x, state);
+    shuffle::shuffle(y, state);
+    shuffle::shuffle(sum, state);
+}
+
+// What is filled with a mask, masked once more with it, is the filling of the same bits without a mask. The
+// tests 1 and 2 are passed, there are C bits, and the matrix has the symbol's length.
+pub fn fill_masked(p: Params, list: &[u16], bits: &[u8], matrix: &mut [u8])
+    requires { ⌜ (inRange p ≡ true) × (listVerdict p (now list) ≡ Sound) × (length (now bits) ≡ sizesFor p (now list) .capacity) × (length (now matrix) ≡ rows p * columns p) ⌝ }
+    ensures { λ _. ⌜ masked p (now (list .entry)) (p .mask) (now (matrix .exit)) ≡ unmasked p (now (list .entry)) (now (bits .entry)) ⌝ }
+{
+    layout::fill(p, list, bits, matrix);
+}
