@@ -9,15 +9,15 @@ use native.Mathlib.Decide.{ℕ-discrete, decLt}
 use lib.Dec.{eqb}
 use lib.ListN.{length, getD, set, length-set, List·getD-eq-default}
 use lib.Seq.{ext-getD, getD-set-same, getD-set-other}
-use borrow.Author.Tests.{eqb-true, eqb-false, not-true}
+use borrow.Author.Tests.{not-true}
 use Rattle.symbology.specs.Ranges.{tally}
 use Rattle.symbology.specs.Bits.{AllBits, bitwiseSum}
 use Rattle.symbology.specs.Generator.{nextState}
 use Rattle.symbology.specs.Shuffle.{drawnPlace, exchanged, shuffledFirst}
 use Rattle.symbology.specs.Matrix.{BitMatrix}
 use Rattle.symbology.specs.Codeword.{isCheckColumn, messageColumns, codeword}
-use Rattle.laws.proofs.Ranges.{by, length-tabulate, getD-tabulate}
-use Rattle.laws.proofs.Bits.{bit-tally}
+use Rattle.laws.proofs.Ranges.{length-tabulate, getD-tabulate}
+use Rattle.laws.proofs.Bits.{tally-bit, bit-tally}
 use Rattle.laws.proofs.Gf2.{bitAt, odd-step, Meets, meets-xor, meets-ext, unmet-meets, meets-none}
 use Rattle.laws.proofs.Shuffle.{length-exchanged}
 use Rattle.laws.proofs.Codeword.{IsCodeword, carries-all, carried-at, codeword-is, codeword-found}
@@ -51,8 +51,8 @@ sum-odd a b =
   where
     first : a % 2 ≡ tally (eqb (a % 2) 1)
     first =
-        by (eqb (a % 2) 1) (λ t. rw t (eqb-true (a % 2) 1 t))
-        (λ t. rw t (let odd : a % 2 ≡ 1 → ⊥ = eqb-false (a % 2) 1 t in omega arith))
+        let twice : a % 2 % 2 ≡ a % 2 = omega arith in
+        sym (tally-bit (a % 2) (omega arith)) ∙ ap (λ (x : ℕ). tally (eqb x 1)) twice
 
 -- ---- exchanges
 

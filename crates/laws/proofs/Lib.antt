@@ -48,7 +48,7 @@ pub mod RoundTrip
 pub mod Mending
 -- for teaching
 pub mod Teaching
--- whole symbols, computed
+-- computed: whole symbols, and the laws for teaching
 pub mod WholeSymbol
 pub mod Rectangle
 pub mod TeachingExamples

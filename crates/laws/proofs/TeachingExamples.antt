@@ -10,11 +10,11 @@ use lib.ListN.{length, getD}
 use lib.Ieee.{mul, div, ofInt, toUnsigned}
 use Rattle.symbology.specs.declared.Params.{Params}
 use Rattle.symbology.specs.declared.Sizes.{Sizes}
-use Rattle.symbology.specs.Ranges.{allHold, joinFrom, tabulate, those, has, allBelow, lowest}
+use Rattle.symbology.specs.Ranges.{allHold, tabulate, those, has, allBelow, lowest}
 use Rattle.symbology.specs.Bits.{AllBits, bitwiseSum}
 use Rattle.symbology.specs.Parameters.{rangeTests, inRange}
 use Rattle.symbology.specs.Sides.{columns, rows, coreTable, coresOf, innerPatterns}
-use Rattle.symbology.specs.Patterns.{nearCore, finder, patternOf, inSquares, colourIn, meeting, patternAt, covered, patternColour}
+use Rattle.symbology.specs.Patterns.{nearCore, finder, patternOf, inSquares, colourIn, meeting, patternAt, patternColour}
 use Rattle.symbology.specs.Reserved.{entryAt, firstEntry, badEntry, badAt, entryVerdict, listVerdict, listNumber, listPlace}
 use Rattle.symbology.specs.Capacity.{bitsPerModule, patternModules, dataModules, asBits, capacity, sizesOf}
 use Rattle.symbology.specs.Generator.{temper, stateAfter}
@@ -104,9 +104,9 @@ masked-back = refl
 -- ---- two wrong laws
 
 -- none of the tests 1 to 3 applies to the symbol of the codewords above
-is-legal : sizesAnswer symbol reserved .number ≡ 0
-unfolding allHold rangeTests inRange lowest innerPatterns bitsPerModule patternModules dataModules asBits capacity sizesOf coreTable coresOf nearCore finder patternOf inSquares colourIn meeting patternAt covered patternColour entryAt firstEntry badEntry badAt entryVerdict listVerdict listNumber listPlace firstOf sizeTests sizesAnswer symbol reserved joinFrom
-is-legal = refl
+none-applies : sizesAnswer symbol reserved .number ≡ 0
+unfolding reserved allHold rangeTests inRange lowest innerPatterns bitsPerModule patternModules dataModules asBits capacity sizesOf entryAt firstEntry badEntry badAt entryVerdict listVerdict listNumber listPlace firstOf sizeTests sizesAnswer
+none-applies = refl
 
 -- each bit turned
 abbrev complement : List ℕ → List ℕ
@@ -123,7 +123,7 @@ unfolding code
 no-complement law =
     let net : List ℕ = 1 ∷ 1 ∷ [] in
     let said : codewordFor (sizesFor symbol reserved) (complement net) ≡ complement (codewordFor (sizesFor symbol reserved) net) =
-    law symbol reserved net is-legal bits (sym (ap (λ (s : Sizes). s .net) the-sizes)) in
+    law symbol reserved net none-applies bits (sym (ap (λ (s : Sizes). s .net) the-sizes)) in
     let wrong : codewordFor small (complement net) ≡ complement (codewordFor small net) =
     subst (λ (s : Sizes). codewordFor s (complement net) ≡ complement (codewordFor s net)) the-sizes said in
     let third : _≡_ {A = ℕ} 0 1 = ap (λ (w : List ℕ). getD w 2 0) wrong in
@@ -136,10 +136,15 @@ no-complement law =
 
 -- Masking with two different masks does not give the matrix back: masks 0 and 1 differ at column 1 of row 2.
 pub no-two-masks : ((p : Params) (list matrix : List ℕ) (one other : ℕ)
+    → one ≤ 7
+    → other ≤ 7
+    → (one ≡ other → ⊥)
     → length matrix ≡ rows p * columns p
     → masked p list other (masked p list one matrix) ≡ matrix)
     → ⊥
 unfolding underMask matrix
 no-two-masks law =
-    let wrong : _≡_ {A = ℕ} 20 21 = ap (λ (m : List ℕ). getD m 21 0) (law symbol (2 ∷ 1 ∷ 5 ∷ []) matrix 0 1 refl) in
+    let said : underMask 1 (underMask 0 matrix) ≡ matrix =
+    law symbol (2 ∷ 1 ∷ 5 ∷ []) matrix 0 1 (omega arith) (omega arith) (λ e. omega arith) refl in
+    let wrong : _≡_ {A = ℕ} 20 21 = ap (λ (m : List ℕ). getD m 21 0) said in
     absurd (omega arith)

@@ -53,7 +53,7 @@ sizes : Sizes
 unfolding reserved lowest innerPatterns bitsPerModule patternModules dataModules asBits capacity sizesOf
 sizes = sizesFor symbol reserved
 
--- its sizes
+-- the symbol's sizes, worked out
 abbrev pub small : Sizes
 small = record { columns = 21; rows = 21; depth = 3; capacity = 9; wr = 4; block = 2; gross = 8; checks = 6; net = 2; work = 78 }
 

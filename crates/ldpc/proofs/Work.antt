@@ -19,7 +19,7 @@ use Rattle.lent.specs.Buffer.{Laid}
 use Rattle.ldpc.specs.Work.{areasOf, CodeSizes}
 
 -- The sizes of a legal symbol belong together.
-code-sizes : (p : Params) (l : List ℕ) (modules room : ℕ) → Legal p l modules room → CodeSizes (sizesFor p l)
+pub code-sizes : (p : Params) (l : List ℕ) (modules room : ℕ) → Legal p l modules room → CodeSizes (sizesFor p l)
 unfolding sizesOf
 code-sizes p l modules room k =
     let heavy : 0 < p .wr = omega (arith, ranges p (k .in-range) .wr-least) in

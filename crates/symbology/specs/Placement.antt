@@ -82,7 +82,7 @@ unmaskedIndex p l bs c r =
 unfoldable pub dataModule : Params → List ℕ → List ℕ → ℕ → ℕ → ℕ
 dataModule p l bs c r = bitXor (unmaskedIndex p l bs c r) (maskAt (p .mask) (p .colours) c r)
 
--- the mask changes data modules only
+-- what a cell holds: v in a data module, else its own colour index
 unfoldable pub onCell : Cell → ℕ → ℕ
 onCell Data v = v
 onCell (Fixed f) v = f

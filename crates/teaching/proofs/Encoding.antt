@@ -14,12 +14,12 @@ use Rattle.symbology.specs.Parameters.{inRange}
 use Rattle.symbology.specs.Tests.{sizesFor}
 use Rattle.symbology.specs.SizesAnswer.{noSizes, theSizes, sizesAnswer}
 use Rattle.symbology.specs.Write.{codewordFor}
-use Rattle.laws.proofs.Tests.{Legal, sizes-each, legal-is}
+use Rattle.laws.proofs.Tests.{Legal, sizes-each}
 use Rattle.laws.proofs.Teaching.{codeword-of-sum}
 use Rattle.lent.proofs.Buffer.{length-part}
 use Rattle.ldpc.specs.Work.{areasOf, CodeSizes, wordFor, netFor}
 use Rattle.ldpc.specs.Stages.{Encoded}
-use Rattle.ldpc.proofs.Work.{legal-sizes, net-inside}
+use Rattle.ldpc.proofs.Work.{code-sizes, net-inside}
 
 module _ (p : Params) (l : List ℕ) (passed : sizesAnswer p l .number ≡ 0) where
   -- with buffers of the symbol's sizes the input is legal
@@ -33,22 +33,20 @@ module _ (p : Params) (l : List ℕ) (passed : sizesAnswer p l .number ≡ 0) wh
   pub range-passed : inRange p ≡ true
   range-passed = sized .in-range
 
-  code-sizes : CodeSizes (sizesFor p l)
-  code-sizes =
-      let s : Sizes = sizesFor p l in
-      legal-sizes p l (s .columns * s .rows) (s .work) (legal-is p l (s .columns * s .rows) (s .work) sized) refl .0
+  belong : CodeSizes (sizesFor p l)
+  belong = code-sizes p l (sizesFor p l .columns * sizesFor p l .rows) (sizesFor p l .work) sized
 
   net-long : (work : List ℕ) → sizesFor p l .work ≤ length work → length (netFor (sizesFor p l) work) ≡ sizesFor p l .net
-  net-long work h = length-part work (areasOf (sizesFor p l) .message) (sizesFor p l .net) (net-inside code-sizes h refl)
+  net-long work h = length-part work (areasOf (sizesFor p l) .message) (sizesFor p l .net) (net-inside belong h refl)
 
   module _ {s : Sizes} (same : s ≡ sizesFor p l) where
-    -- what encoding asks of a work buffer
+    -- What encoding asks of a work buffer.
     pub encode-asks : (work : List ℕ)
         → sizesFor p l .work ≤ length work
         → AllBits (netFor (sizesFor p l) work)
         → CodeSizes s × (s .work ≤ length work) × AllBits (netFor s work)
     encode-asks work long bits =
-        subst⁻¹ (λ (t : Sizes). CodeSizes t × (t .work ≤ length work) × AllBits (netFor t work)) same (code-sizes, long, bits)
+        subst⁻¹ (λ (t : Sizes). CodeSizes t × (t .work ≤ length work) × AllBits (netFor t work)) same (belong, long, bits)
 
     word-stored : {before after : List ℕ}
         → Encoded s before after

@@ -1,6 +1,6 @@
-// Laws for teaching (document 02, W-207), said of the functions that the library is made of. A function here
-// calls one of them, and its contract is the law. Its proof knows of the function called what every caller
-// knows, which is that function's contract.
+// Laws for teaching (document 02, W-207), said of the functions that the library is made of. Each function
+// here calls the one that its law is about, and its contract is the law. Its proof knows of the functions
+// called what every caller knows, which is their contracts.
 use symbology::Params;
 ghost use Prim.Native.Nat.{_*_, _≤_};
 ghost use mathlib.Core.Path.{_≡_};
@@ -18,7 +18,7 @@ ghost use Rattle.ldpc.specs.Work.{wordFor, netFor};
 
 // The codeword of a sum is the sum of the codewords: where the net bits of one work buffer are the sum of
 // those of two others, so is the word that `ldpc::encode` stores in it. None of the tests 1 to 3 applies to
-// parameters and list, and each work buffer is long enough for test 5.
+// parameters and list, each work buffer is long enough for test 5, and the net bits of all three are bits.
 pub fn encode_sum(p: Params, list: &[u16], x: &mut [u8], y: &mut [u8], sum: &mut [u8])
     requires { ⌜ sizesAnswer p (now list) .number ≡ 0 ⌝ }
     requires { ⌜ (let s = sizesFor p (now list) in (s .work ≤ length (now x)) × (s .work ≤ length (now y)) × (s .work ≤ length (now sum))) ⌝ }
