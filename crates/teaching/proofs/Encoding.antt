@@ -48,7 +48,8 @@ module _ (p : Params) (l : List ℕ) (passed : sizesAnswer p l .number ≡ 0) wh
     encode-asks work long bits =
         subst⁻¹ (λ (t : Sizes). CodeSizes t × (t .work ≤ length work) × AllBits (netFor t work)) same (belong, long, bits)
 
-    word-stored : {before after : List ℕ}
+    -- The word stored is the codeword of the net bits.
+    pub word-stored : {before after : List ℕ}
         → Encoded s before after
         → wordFor (sizesFor p l) after ≡ codewordFor (sizesFor p l) (netFor (sizesFor p l) before)
     word-stored {before} {after} e = subst (λ (t : Sizes). wordFor t after ≡ codewordFor t (netFor t before)) same (e .word-is)

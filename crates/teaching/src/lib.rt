@@ -11,18 +11,22 @@ ghost use Rattle.symbology.specs.Bits.{AllBits, bitwiseSum};
 ghost use Rattle.symbology.specs.Parameters.{inRange};
 ghost use Rattle.symbology.specs.Sides.{columns, rows};
 ghost use Rattle.symbology.specs.Reserved.{listVerdict};
+ghost use Rattle.symbology.specs.Shuffle.{shuffled};
 ghost use Rattle.symbology.specs.Placement.{unmasked, masked};
 ghost use Rattle.symbology.specs.Tests.{sizesFor};
 ghost use Rattle.symbology.specs.SizesAnswer.{sizesAnswer};
+ghost use Rattle.symbology.specs.Write.{codewordFor};
 ghost use Rattle.ldpc.specs.Work.{wordFor, netFor};
 
-// The codeword of a sum is the sum of the codewords: where the net bits of one work buffer are the sum of
-// those of two others, so is the word that `ldpc::encode` stores in it. None of the tests 1 to 3 applies to
-// parameters and list, each work buffer is long enough for test 5, and the net bits of all three are bits.
+// The codeword of a sum is the sum of the codewords: `ldpc::encode` stores in three work buffers the codeword
+// of their net bits, and where the net bits of one are the sum of those of the others, so is its word. None
+// of the tests 1 to 3 applies to parameters and list, each work buffer is long enough for test 5, and the net
+// bits of all three are bits.
 pub fn encode_sum(p: Params, list: &[u16], x: &mut [u8], y: &mut [u8], sum: &mut [u8])
     requires { ⌜ sizesAnswer p (now list) .number ≡ 0 ⌝ }
     requires { ⌜ (let s = sizesFor p (now list) in (s .work ≤ length (now x)) × (s .work ≤ length (now y)) × (s .work ≤ length (now sum))) ⌝ }
     requires { ⌜ (let s = sizesFor p (now list) in AllBits (netFor s (now x)) × AllBits (netFor s (now y)) × AllBits (netFor s (now sum))) ⌝ }
+    ensures { λ _. ⌜ (let s = sizesFor p (now (list .entry)) in (wordFor s (now (x .exit)) ≡ codewordFor s (netFor s (now (x .entry)))) × (wordFor s (now (y .exit)) ≡ codewordFor s (netFor s (now (y .entry)))) × (wordFor s (now (sum .exit)) ≡ codewordFor s (netFor s (now (sum .entry))))) ⌝ }
     ensures { λ _. ⌜ (let s = sizesFor p (now (list .entry)) in netFor s (now (sum .entry)) ≡ bitwiseSum (netFor s (now (x .entry))) (netFor s (now (y .entry))) → wordFor s (now (sum .exit)) ≡ bitwiseSum (wordFor s (now (x .exit))) (wordFor s (now (y .exit)))) ⌝ }
 {
     let s = capacity::sizes_of(p, list.len() / 3);
@@ -31,10 +35,11 @@ pub fn encode_sum(p: Params, list: &[u16], x: &mut [u8], y: &mut [u8], sum: &mut
     ldpc::encode(sum, s);
 }
 
-// The interleaving of a sum is the sum of the interleavings: where a word is the sum of two others, it still
-// is when `shuffle::shuffle` has permuted all three from one state. They have at most 4,096 bytes each.
+// The interleaving of a sum is the sum of the interleavings: `shuffle::shuffle` permutes three words from one
+// state, and where one is the sum of the others, it still is. They have at most 4,096 bytes each.
 pub fn shuffle_sum(x: &mut [u8], y: &mut [u8], sum: &mut [u8], state: u64)
     requires { ⌜ (length (now x) ≡ length (now sum)) × (length (now y) ≡ length (now sum)) × (length (now sum) ≤ 4096) ⌝ }
+    ensures { λ _. ⌜ (now (x .exit) ≡ shuffled 0 state (now (x .entry))) × (now (y .exit) ≡ shuffled 0 state (now (y .entry))) × (now (sum .exit) ≡ shuffled 0 state (now (sum .entry))) ⌝ }
     ensures { λ _. ⌜ (now (sum .entry) ≡ bitwiseSum (now (x .entry)) (now (y .entry)) → now (sum .exit) ≡ bitwiseSum (now (x .exit)) (now (y .exit))) ⌝ }
 {
     shuffle::shuffle(x, state);

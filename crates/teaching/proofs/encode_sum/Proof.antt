@@ -1,5 +1,5 @@
 -- `teaching::encode_sum` meets its contract, by that of `ldpc::encode` and the law of the codeword of a sum. Assumes nothing.
-use Rattle.teaching.proofs.Encoding.{range-passed, encode-asks, words-add}
+use Rattle.teaching.proofs.Encoding.{range-passed, encode-asks, word-stored, words-add}
 use borrow.Author.Needs.{needs}
 use Rattle.teaching.proofs.encode_sum.Statement.{statement}
 use Rattle.teaching.proofs.encode_sum.Tie as tie
@@ -42,8 +42,12 @@ returns c =
     let sizes = c .before .before .before .before .before .before .before .before .before .before .before .before .sizes-of .ensures in
     let first = c .before .before .before .before .before .before .before .before .before .before .encode .ensures in
     let second = c .before .before .before .before .before .before .encode2 .ensures in
-    words-add (s .args .p) (s .args .list .now) (s .pre .0) sizes
-    (s .pre .1 .0 .0) (s .pre .1 .0 .1) (s .pre .1 .1 .0) (s .pre .1 .1 .1) first second (c .before .before .encode3 .ensures)
+    let third = c .before .before .encode3 .ensures in
+    let p = s .args .p in
+    let l = s .args .list .now in (
+      (word-stored p l (s .pre .0) sizes first, word-stored p l (s .pre .0) sizes second, word-stored p l (s .pre .0) sizes third),
+      words-add p l (s .pre .0) sizes (s .pre .1 .0 .0) (s .pre .1 .0 .1) (s .pre .1 .1 .0) (s .pre .1 .1 .1) first second third,
+    )
 
 pub encode-sum-spec : {M : Type 1} → statement M
 encode-sum-spec =

@@ -29,7 +29,8 @@ returns c =
     let first = c .before .before .before .before .before .before .before .before .before .before .shuffle .ensures .0 in
     let second = c .before .before .before .before .before .before .shuffle2 .ensures .0 in
     let third = c .before .before .shuffle3 .ensures .0 in
-    shuffles-add (s .args .state) (s .args .x .now) (s .args .y .now) (s .pre .0 ∙ sym (s .pre .1)) first second third
+    let long = s .pre .0 ∙ sym (s .pre .1) in
+    ((first, second, third), shuffles-add (s .args .state) (s .args .x .now) (s .args .y .now) long first second third)
 
 pub shuffle-sum-spec : {M : Type 1} → statement M
 shuffle-sum-spec =
