@@ -1,5 +1,5 @@
 -- The laws for teaching, each with an instance that the checker computes, and two wrong laws, each with an instance that refutes it.
--- The expected numbers were worked out by a second program.
+-- The expected numbers are those of the second program (second/tests/laws.rs).
 -- Assumes nothing.
 use Prim.Native.Nat.{ℕ, zero, suc, _-_, _*_, _%_, _≤_}
 use mathlib.Core.Path.{_≡_, refl, sym, ap, subst}
