@@ -1,17 +1,11 @@
-// What follows from the parameters and the reserved list before any matrix is looked at: the ranges
-// of the parameters, the number of data modules, the capacity, the sizes of the code, and the tests
-// 1 to 5 of document 01.
+// What follows from the parameters and the number of list entries before any matrix is looked at: the
+// ranges of the parameters, the number of data modules, the capacity and the sizes of the code.
 //
-// `sizes` is for callers. It, `in_range` and the two functions of tests answer every input; the others
-// serve the crates above and ask for what these have shown. Only test 2, which the crate `reserved`
-// makes, costs more for a longer list.
-use symbology::Answer;
+// `in_range` answers every input; the others serve the crates above and ask for what it has shown.
 use symbology::Bits;
-use symbology::ListVerdict;
 use symbology::Modules;
 use symbology::Params;
 use symbology::Sizes;
-use symbology::SizesAnswer;
 ghost use Prim.Native.Nat.{_-_, _≤_};
 ghost use mathlib.Core.Path.{_≡_};
 ghost use mathlib.Core.Bool.{true, cond, _||_};
@@ -20,9 +14,6 @@ ghost use Rattle.symbology.specs.Ranges.{within, allHold};
 ghost use Rattle.capacity.specs.Groups.{sideTests, colourTests, codeTests};
 ghost use Rattle.symbology.specs.Parameters.{inRange};
 ghost use Rattle.symbology.specs.Capacity.{bitsPerModule, dataModules, asBits, sizesOf};
-ghost use Rattle.symbology.specs.Tests.{firstOf, sizeTests, frontTests};
-ghost use Rattle.symbology.specs.SizesAnswer.{sizesAnswer};
-ghost use Rattle.symbology.specs.Write.{answer};
 
 // ---- test 1
 
@@ -199,84 +190,5 @@ pub fn sizes_of(p: Params, listed: usize) -> Sizes
         checks: checks,
         net: block * (wr - wc),
         work: checks * ((gross + 7) / 8) + 8 * c,
-    }
-}
-
-// ---- the tests 1 to 5
-
-fn answered(number: u32, place: usize) -> Answer
-    ensures { λ r. ⌜ r ≡ answer number place ⌝ }
-{
-    Answer {
-        number: number,
-        place: place,
-    }
-}
-
-// 1 to 3, which need no buffer; 0 where none of them holds.
-pub fn size_tests(p: Params, list: &[u16]) -> Answer
-    ensures { λ r. ⌜ r ≡ firstOf (sizeTests answer p (now (list .entry))) (answer 0 0) ⌝ }
-{
-    if !in_range(p) {
-        return answered(1, 0);
-    }
-    let verdict = reserved::judge_list(p, list);
-    if let ListVerdict::Fault(place) = verdict {
-        return answered(2, place);
-    }
-    let c = sizes_of(p, list.len() / 3).capacity;
-    if c < wide(p.wr) {
-        return answered(3, 0);
-    }
-    if 4096 < c {
-        return answered(3, 0);
-    }
-    answered(0, 0)
-}
-
-// 1 to 5, for a matrix and a work buffer of these lengths; 0 where none of them holds.
-pub fn front_tests(p: Params, list: &[u16], modules: usize, room: usize) -> Answer
-    ensures { λ r. ⌜ r ≡ firstOf (frontTests answer p (now (list .entry)) modules room) (answer 0 0) ⌝ }
-{
-    let first = size_tests(p, list);
-    if first.number != 0 {
-        return first;
-    }
-    let s = sizes_of(p, list.len() / 3);
-    if modules != s.columns * s.rows {
-        return answered(4, 0);
-    }
-    if room < s.work {
-        return answered(5, 0);
-    }
-    first
-}
-
-// What a caller needs to know before a write or a read: columns, rows, C, Pn and the bytes of the
-// work buffer, or the refusal 1, 2 or 3 with zeros.
-pub fn sizes(p: Params, list: &[u16]) -> SizesAnswer
-    ensures { λ r. ⌜ r ≡ sizesAnswer p (now (list .entry)) ⌝ }
-{
-    let first = size_tests(p, list);
-    if first.number != 0 {
-        return SizesAnswer {
-            number: first.number,
-            place: first.place,
-            columns: 0,
-            rows: 0,
-            capacity: 0,
-            net: 0,
-            work: 0,
-        };
-    }
-    let s = sizes_of(p, list.len() / 3);
-    SizesAnswer {
-        number: 0,
-        place: 0,
-        columns: s.columns,
-        rows: s.rows,
-        capacity: s.capacity,
-        net: s.net,
-        work: s.work,
     }
 }

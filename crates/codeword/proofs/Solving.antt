@@ -17,7 +17,8 @@ use Rattle.symbology.specs.Codeword.{isCheckColumn, codeword}
 use Rattle.symbology.proofs.Ranges.{clash}
 use Rattle.laws.proofs.Ranges.{by, tally-le}
 use Rattle.laws.proofs.Bits.{bit-tally}
-use Rattle.laws.proofs.Gf2.{parity-short, dot, dot-ext, bitAt, xor-none, none-xor}
+use Rattle.laws.proofs.Gf2.{parity-short, dot-ext, bitAt, xor-none, none-xor}
+use Rattle.laws.specs.Gf2.{dot}
 use Rattle.laws.proofs.Codeword.{codeword-filled}
 use Rattle.lent.specs.declared.Areas.{Areas}
 use Rattle.lent.specs.Buffer.{part, ChangedIn, Laid}

@@ -10,7 +10,7 @@ use Rattle.symbology.specs.Bits.{anyOne}
 use Rattle.symbology.specs.Ranges.{tally, those}
 use Rattle.symbology.specs.Matrix.{BitMatrix}
 use Rattle.symbology.specs.Codeword.{codeword, messageBits}
-use Rattle.laws.proofs.Gf2.{dot}
+use Rattle.laws.specs.Gf2.{dot}
 use Rattle.lent.specs.declared.Areas.{Areas}
 use Rattle.lent.specs.Buffer.{part, ChangedIn}
 use Rattle.dense.specs.Dense.{denseBits}

@@ -22,7 +22,7 @@
 use libc::STDIN_FILENO;
 use libc::STDOUT_FILENO;
 use symbology::Params;
-use symbology::ReadAnswer;
+use calls::ReadAnswer;
 ghost use Prim.Native.Nat.{_≤_};
 ghost use mathlib.Core.Path.{_≡_};
 ghost use mathlib.Core.Bool.{true, false};

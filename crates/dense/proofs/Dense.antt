@@ -20,7 +20,8 @@ use Rattle.symbology.specs.Rule.{unmet}
 use Rattle.symbology.proofs.Ranges.{below-true}
 use Rattle.laws.proofs.Ranges.{tally-le}
 use Rattle.laws.proofs.Masks.{xor-digit}
-use Rattle.laws.proofs.Gf2.{parity, parity-ext, parity-xor, parity-add, parity-short, dot, dot-ext, bitAt, odd-step, unmet-dot, xor-none, none-xor, xor-same}
+use Rattle.laws.proofs.Gf2.{parity-ext, parity-xor, parity-add, parity-short, dot-ext, bitAt, odd-step, unmet-dot, xor-none, none-xor, xor-same}
+use Rattle.laws.specs.Gf2.{parity, dot}
 use Rattle.lent.specs.declared.Areas.{Areas}
 use Rattle.lent.specs.Buffer.{part, ChangedIn, Cleared, Laid}
 use Rattle.lent.proofs.Buffer.{part-at, changed-none, changed-set, changed-then}

@@ -4,7 +4,7 @@ ghost use Prim.Native.Nat.{_+_, _*_, _/_, _≤_, _<_};
 ghost use mathlib.Core.Path.{_≡_};
 ghost use lib.ListN.{length};
 ghost use Rattle.symbology.specs.Ranges.{tally};
-ghost use Rattle.laws.proofs.Gf2.{parity, dot};
+ghost use Rattle.laws.specs.Gf2.{parity, dot};
 ghost use Rattle.dense.specs.Dense.{byteBit, denseBits, Turned, RowAdded, PackedIn};
 
 // The bit of a row in a column.

@@ -17,7 +17,8 @@ use Rattle.symbology.specs.Codeword.{isCheckColumn}
 use Rattle.symbology.proofs.Ranges.{and-left, and-right}
 use Rattle.laws.proofs.Ranges.{lowest-holds, lowest-before, lowest-to}
 use Rattle.laws.proofs.Columns.{check-laws}
-use Rattle.laws.proofs.Elimination.{Inv, start, inv-ext, clear-message, clear-step, pivot-check, pivot-step}
+use Rattle.laws.proofs.Elimination.{start, inv-ext, clear-message, clear-step, pivot-check, pivot-step}
+use Rattle.laws.specs.Elimination.{Inv}
 use Rattle.lent.specs.declared.Areas.{Areas}
 use Rattle.lent.specs.Buffer.{storedNumber, ChangedInBoth, Cleared, Laid}
 use Rattle.lent.proofs.Buffer.{number-same, stored-there, stored-other, changed-none, changed-set, changed-stored, both-none, both-front, both-back}

@@ -8,7 +8,7 @@ use lib.Dec.{ltb, eqb}
 use lib.ListN.{getD}
 use Rattle.symbology.specs.Matrix.{BitMatrix}
 use Rattle.symbology.specs.Codeword.{isCheckColumn}
-use Rattle.laws.proofs.Elimination.{Inv}
+use Rattle.laws.specs.Elimination.{Inv}
 use Rattle.lent.specs.declared.Areas.{Areas}
 use Rattle.lent.specs.Buffer.{numberAt, ChangedIn, ChangedInBoth}
 use Rattle.dense.specs.Dense.{denseBits}

@@ -4,17 +4,20 @@
 use Prim.Native.Nat.{ℕ}
 use mathlib.Core.Path.{_≡_}
 use mathlib.Core.List.{List}
-use Rattle.symbology.specs.declared.Answer.{Answer}
-use Rattle.symbology.specs.declared.ReadAnswer.{ReadAnswer}
-use Rattle.jabcode.specs.Calls.{Writes, Reads}
+use Rattle.symbology.specs.Stream.{streamOf}
+use Rattle.calls.specs.declared.Answer.{Answer}
+use Rattle.calls.specs.declared.ReadAnswer.{ReadAnswer}
+use Rattle.calls.specs.Contracts.{Writes, Reads}
 use Rattle.jabcode_c.specs.Words.{paramsOf, writeWords, readWords}
 
 -- a write: the words are those of its answer, and all else is as in the call
-abbrev pub WritesFor : List ℕ → List ℕ → List ℕ → List ℕ → List ℕ → List ℕ → List ℕ → List ℕ → Type 0
-WritesFor w l message matrix work matrix′ work′ answer =
-    (a : Answer) × (answer ≡ writeWords a) × Writes (paramsOf w) l message matrix work a matrix′ work′
+pub record WritesFor (w l message matrix work matrix′ work′ answer : List ℕ) : Type 0 where
+  pub given : Answer
+  pub words-are : answer ≡ writeWords given
+  pub writes : Writes (paramsOf w) l (streamOf message) matrix work given matrix′ work′
 
 -- a read
-abbrev pub ReadsFor : List ℕ → List ℕ → List ℕ → List ℕ → List ℕ → List ℕ → List ℕ → List ℕ → Type 0
-ReadsFor w l matrix work message work′ message′ answer =
-    (a : ReadAnswer) × (answer ≡ readWords a) × Reads (paramsOf w) l matrix work message a work′ message′
+pub record ReadsFor (w l matrix work message work′ message′ answer : List ℕ) : Type 0 where
+  pub given : ReadAnswer
+  pub words-are : answer ≡ readWords given
+  pub reads : Reads (paramsOf w) l matrix work message given work′ message′

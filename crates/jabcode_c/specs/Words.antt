@@ -1,14 +1,12 @@
--- The C interface: parameters and answers as arrays of `uint32_t`.
+-- The C interface: parameters as an array of `uint32_t`, answers as arrays of `uint64_t`.
 -- Assumes nothing.
 use Prim.Native.Nat.{ℕ}
-use mathlib.Core.Bool.{cond}
 use mathlib.Core.List.{List, [], _∷_}
-use lib.Dec.{ltb}
 use lib.ListN.{getD}
 use Rattle.symbology.specs.declared.Params.{Params}
-use Rattle.symbology.specs.declared.Answer.{Answer}
-use Rattle.symbology.specs.declared.ReadAnswer.{ReadAnswer}
-use Rattle.symbology.specs.declared.SizesAnswer.{SizesAnswer}
+use Rattle.calls.specs.declared.Answer.{Answer}
+use Rattle.calls.specs.declared.ReadAnswer.{ReadAnswer}
+use Rattle.calls.specs.declared.SizesAnswer.{SizesAnswer}
 
 -- the eleven parameters, in document 01's order
 abbrev pub paramsOf : List ℕ → Params
@@ -27,20 +25,14 @@ paramsOf w =
       turn = getD w 10 0;
     }
 
--- A number as 32 bits have it: one that does not fit is given as the greatest that does. That only the place of a refusal 2 can be such
--- a one is proved in proofs/Words.
-abbrev pub wordOf : ℕ → ℕ
-wordOf n = cond (ltb n 4294967296) n 4294967295
-
 -- number, place
 abbrev pub writeWords : Answer → List ℕ
-writeWords a = a .number ∷ wordOf (a .place) ∷ []
+writeWords a = a .number ∷ a .place ∷ []
 
 -- number, place, length, repairs, first unmet count
 abbrev pub readWords : ReadAnswer → List ℕ
-readWords a = a .number ∷ wordOf (a .place) ∷ wordOf (a .length) ∷ wordOf (a .repairs) ∷ wordOf (a .unmet) ∷ []
+readWords a = a .number ∷ a .place ∷ a .length ∷ a .repairs ∷ a .unmet ∷ []
 
--- number, place, columns, rows, C, Pn, work bytes
+-- number, place, columns, rows, C, Pn, work bytes, Pg, K
 abbrev pub sizesWords : SizesAnswer → List ℕ
-sizesWords a =
-    a .number ∷ wordOf (a .place) ∷ wordOf (a .columns) ∷ wordOf (a .rows) ∷ wordOf (a .capacity) ∷ wordOf (a .net) ∷ wordOf (a .work) ∷ []
+sizesWords a = a .number ∷ a .place ∷ a .columns ∷ a .rows ∷ a .capacity ∷ a .net ∷ a .work ∷ a .gross ∷ a .checks ∷ []

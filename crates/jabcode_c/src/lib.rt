@@ -1,9 +1,10 @@
 // The calls of `jabcode` for C: include/jabcode.h declares them. A slice is a pointer and a length there,
-// in this order, and the parameters and the answers are arrays of `uint32_t`.
+// in this order. The parameters are a struct of `uint32_t` members there and an answer one of `uint64_t`
+// members, so that they lie in memory as the arrays here do, and every number is given as it is.
 use symbology::Params;
 ghost use mathlib.Core.Path.{_≡_};
-ghost use Rattle.symbology.specs.SizesAnswer.{sizesAnswer};
-ghost use Rattle.jabcode_c.specs.Words.{paramsOf, wordOf, sizesWords};
+ghost use Rattle.calls.specs.Sizes.{sizesAnswer};
+ghost use Rattle.jabcode_c.specs.Words.{paramsOf, sizesWords};
 ghost use Rattle.jabcode_c.specs.Calls.{WritesFor, ReadsFor};
 
 // The parameters in the order of the header.
@@ -25,30 +26,22 @@ fn params_of(w: &[u32; 11]) -> Params
     }
 }
 
-// A number as a `uint32_t` has it, the greatest one for any that does not fit.
-fn word(n: usize) -> u32
-    ensures { λ r. ⌜ r ≡ wordOf n ⌝ }
-{
-    if n < 4294967296 {
-        return n as u32;
-    }
-    4294967295
-}
-
 // What a caller needs to know of a symbol before it is written or read.
 #[no_mangle]
-pub extern "C" fn jab_sizes(params: &[u32; 11], reserved: &[u16], answer: &mut [u32; 7])
-    ensures { λ _. ⌜ now (answer .exit) ≡ sizesWords (sizesAnswer (paramsOf (now (params .entry))) (now (reserved .entry))) ⌝ }
+pub extern "C" fn jab_sizes(params: &[u32; 11], reserved: &[u16], answer: &mut [u64; 9])
+    ensures sizes { λ _. ⌜ now (answer .exit) ≡ sizesWords (sizesAnswer (paramsOf (now (params .entry))) (now (reserved .entry))) ⌝ }
 {
     let a = jabcode::sizes(params_of(params), reserved);
     *answer = [
-        a.number,
-        word(a.place),
-        word(a.columns),
-        word(a.rows),
-        word(a.capacity),
-        word(a.net),
-        word(a.work),
+        a.number as u64,
+        a.place as u64,
+        a.columns as u64,
+        a.rows as u64,
+        a.capacity as u64,
+        a.net as u64,
+        a.work as u64,
+        a.gross as u64,
+        a.checks as u64,
     ];
 }
 
@@ -60,12 +53,12 @@ pub extern "C" fn jab_write(
     message: &[u8],
     matrix: &mut [u8],
     work: &mut [u8],
-    answer: &mut [u32; 2],
+    answer: &mut [u64; 2],
 )
-    ensures { λ _. ⌜ WritesFor (now (params .entry)) (now (reserved .entry)) (now (message .entry)) (now (matrix .entry)) (now (work .entry)) (now (matrix .exit)) (now (work .exit)) (now (answer .exit)) ⌝ }
+    ensures writes { λ _. ⌜ WritesFor (now (params .entry)) (now (reserved .entry)) (now (message .entry)) (now (matrix .entry)) (now (work .entry)) (now (matrix .exit)) (now (work .exit)) (now (answer .exit)) ⌝ }
 {
     let a = jabcode::write(params_of(params), reserved, message, matrix, work);
-    *answer = [a.number, word(a.place)];
+    *answer = [a.number as u64, a.place as u64];
 }
 
 // Reads a sampled matrix. Its contract has demand 3, as that of `jabcode::read`.
@@ -76,16 +69,16 @@ pub extern "C" fn jab_read(
     matrix: &[u8],
     work: &mut [u8],
     message: &mut [u8],
-    answer: &mut [u32; 5],
+    answer: &mut [u64; 5],
 )
-    ensures { λ _. ⌜ ReadsFor (now (params .entry)) (now (reserved .entry)) (now (matrix .entry)) (now (work .entry)) (now (message .entry)) (now (work .exit)) (now (message .exit)) (now (answer .exit)) ⌝ }
+    ensures reads { λ _. ⌜ ReadsFor (now (params .entry)) (now (reserved .entry)) (now (matrix .entry)) (now (work .entry)) (now (message .entry)) (now (work .exit)) (now (message .exit)) (now (answer .exit)) ⌝ }
 {
     let a = jabcode::read(params_of(params), reserved, matrix, work, message);
     *answer = [
-        a.number,
-        word(a.place),
-        word(a.length),
-        word(a.repairs),
-        word(a.unmet),
+        a.number as u64,
+        a.place as u64,
+        a.length as u64,
+        a.repairs as u64,
+        a.unmet as u64,
     ];
 }

@@ -16,7 +16,7 @@
 use libc::STDIN_FILENO;
 use libc::STDOUT_FILENO;
 use symbology::Params;
-use symbology::ReadAnswer;
+use calls::ReadAnswer;
 ghost use Prim.Native.Nat.{_+_, _≤_, _<_};
 ghost use lib.ListN.{length};
 

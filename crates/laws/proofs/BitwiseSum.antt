@@ -18,7 +18,8 @@ use Rattle.symbology.specs.Matrix.{BitMatrix}
 use Rattle.symbology.specs.Codeword.{isCheckColumn, messageColumns, codeword}
 use Rattle.laws.proofs.Ranges.{length-tabulate, getD-tabulate}
 use Rattle.laws.proofs.Bits.{tally-bit, bit-tally}
-use Rattle.laws.proofs.Gf2.{bitAt, odd-step, Meets, meets-xor, meets-ext, unmet-meets, meets-none}
+use Rattle.laws.proofs.Gf2.{bitAt, odd-step, meets-xor, meets-ext, unmet-meets, meets-none}
+use Rattle.laws.specs.Gf2.{Meets}
 use Rattle.laws.proofs.Shuffle.{length-exchanged}
 use Rattle.laws.proofs.Codeword.{IsCodeword, carries-all, carried-at, codeword-is, codeword-found}
 

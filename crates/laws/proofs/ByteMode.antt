@@ -19,7 +19,7 @@ use Rattle.symbology.specs.Bits.{AllBits, AllBytes, bits}
 use Rattle.symbology.specs.Ranges.{tabulate}
 use Rattle.symbology.specs.Characters.{upperCharacters, utf8Bytes, characterBytes}
 use Rattle.symbology.specs.Modes.{codeWidth, characterCount, directSwitches, moreSwitches, switchOf, charactersOf, bytesOf}
-use Rattle.symbology.specs.Stream.{decode, byteBits, runCount, byteRun, byteRuns, byteStream}
+use Rattle.symbology.specs.Stream.{streamOf, ReadsAs, decode, byteBits, runCount, byteRun, byteRuns, byteStream}
 use Rattle.laws.proofs.Bits.{take-every, drop-every, length-bits, value-bits, append-bits, bits-are}
 use Rattle.laws.proofs.Stream.{width-some, readFrom, readOn, decode-from, read-step, read-short}
 
@@ -286,3 +286,15 @@ length-runs (suc n) (b ∷ bs) h = go (length-runs n (drop 8205 bs))
 pub stream-length : (m : List ℕ) → length (byteStream m) ≡ streamLength (length m)
 unfolding byteStream
 stream-length m = length-runs (length m) m (omega arith)
+
+-- ---- the stream that is chosen
+
+-- A message's stream is made of bits.
+pub chosen-bits : (m : List ℕ) → AllBits (streamOf m)
+unfolding streamOf
+chosen-bits m = stream-bits m
+
+-- It reads as the message.
+pub chosen-reads : (m : List ℕ) → AllBytes m → ReadsAs (streamOf m) m
+unfolding streamOf
+chosen-reads m bytes = record { are-bits = stream-bits m; gives = stream-back m bytes }

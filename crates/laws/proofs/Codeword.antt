@@ -20,10 +20,12 @@ use Rattle.symbology.specs.Rule.{unmetCount}
 use Rattle.symbology.specs.Codeword.{isCheckColumn, messageColumns, carries, words, firstWord, codeword, messageBits}
 use Rattle.symbology.proofs.Ranges.{clash, and-left, and-right}
 use Rattle.laws.proofs.Ranges.{by, and-both, length-tabulate, getD-tabulate, tally-le}
-use Rattle.laws.proofs.Gf2.{dot, Meets, meets-ext, bitAt, bit-same, unmet-meets, meets-none}
+use Rattle.laws.proofs.Gf2.{meets-ext, bitAt, bit-same, unmet-meets, meets-none}
+use Rattle.laws.specs.Gf2.{dot, Meets}
 use Rattle.laws.proofs.Kernel.{unique, exists}
 use Rattle.laws.proofs.Columns.{check-laws}
-use Rattle.laws.proofs.Elimination.{Inv, solved}
+use Rattle.laws.proofs.Elimination.{solved}
+use Rattle.laws.specs.Elimination.{Inv}
 use Rattle.laws.proofs.Bits.{bit-tally, tally-bit}
 
 -- ---- the message's bits in the message columns

@@ -14,6 +14,7 @@ use borrow.Author.Tests.{eq-eqb, ne-eqb, eqb-true, eqb-false}
 use Rattle.symbology.specs.Ranges.{tally, those, tabulate}
 use Rattle.symbology.specs.Matrix.{BitMatrix, checkOf, checksOf}
 use Rattle.symbology.specs.Rule.{bitSum, unmet, unmetCount}
+use Rattle.laws.specs.Gf2.{parity, dot, Meets}
 use Rattle.laws.proofs.Ranges.{by, tally-none}
 
 -- ---- one bit
@@ -113,11 +114,6 @@ and-no false b h = refl
 
 -- ---- sums
 
--- f 0 + f 1 + .. + f (n - 1)
-unfoldable pub parity : ℕ → (ℕ → Bool) → Bool
-parity zero f = false
-parity (suc n) f = xor (parity n f) (f n)
-
 pub parity-ext : (n : ℕ) (f g : ℕ → Bool) → ((i : ℕ) → i < n → f i ≡ g i) → parity n f ≡ parity n g
 unfolding parity
 parity-ext zero f g h = refl
@@ -169,10 +165,6 @@ parity-only (suc n) p f l h =
 
 -- ---- dot products
 
--- the dot product of a row and a word, n places
-abbrev pub dot : ℕ → (ℕ → Bool) → (ℕ → Bool) → Bool
-dot n a w = parity n (λ j. a j && w j)
-
 pub dot-ext : (n : ℕ) (a b v w : ℕ → Bool) → ((j : ℕ) → j < n → a j ≡ b j) → ((j : ℕ) → j < n → v j ≡ w j) → dot n a v ≡ dot n b w
 dot-ext n a b v w p q = parity-ext n (λ j. a j && v j) (λ j. b j && w j) (λ j h. ap₂ _&&_ (p j h) (q j h))
 
@@ -215,10 +207,6 @@ unfolding turn
 dot-turn n a w p h = dot-xor n a (λ j. eqb j p) w ∙ ap (λ (b : Bool). xor b (dot n a w)) (dot-unit n a p h)
 
 -- ---- the kernel
-
--- the word is in the kernel: its dot product with each of the first k rows is 0
-abbrev pub Meets : ℕ → ℕ → BitMatrix → (ℕ → Bool) → Type 0
-Meets k n a w = (i : ℕ) → i < k → dot n (a i) w ≡ false
 
 pub meets-xor : (k n : ℕ) (a : BitMatrix) (v w : ℕ → Bool) → Meets k n a v → Meets k n a w → Meets k n a (λ j. xor (v j) (w j))
 meets-xor k n a v w p q i h = dot-xor n (a i) v w ∙ ap₂ xor (p i h) (q i h) ∙ xor-none false

@@ -11,7 +11,8 @@ use borrow.Author.Tests.{lt-ltb, le-ltb}
 use Rattle.symbology.specs.Matrix.{BitMatrix}
 use Rattle.symbology.proofs.Ranges.{clash}
 use Rattle.laws.proofs.Ranges.{by}
-use Rattle.laws.proofs.Gf2.{parity-none, Meets, meets-xor, xor-none, none-xor, xor-same, xor-equal}
+use Rattle.laws.proofs.Gf2.{parity-none, meets-xor, xor-none, none-xor, xor-same, xor-equal}
+use Rattle.laws.specs.Gf2.{Meets}
 
 -- column j is the sum of later check columns: a word of the kernel whose first 1 is at j and whose other ones are in check columns
 pub record Dependency (k n : ℕ) (a : BitMatrix) (chk : ℕ → Bool) (j : ℕ) (d : ℕ → Bool) : Type 0 where

@@ -38,17 +38,9 @@ pub mod Steps
 pub mod Stream
 pub mod ByteMode
 pub mod Net
--- the calls
-pub mod Tests
+-- legal symbols
 pub mod Sizes
 pub mod Symbols
-pub mod Stages
-pub mod Answers
-pub mod RoundTrip
-pub mod Mending
+pub mod Written
 -- for teaching
 pub mod Teaching
--- computed: whole symbols, and the laws for teaching
-pub mod WholeSymbol
-pub mod Rectangle
-pub mod TeachingExamples

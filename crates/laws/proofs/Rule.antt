@@ -17,7 +17,7 @@ use Rattle.symbology.specs.Ranges.{tabulate, those, has}
 use Rattle.symbology.specs.Bits.{AllBits}
 use Rattle.symbology.specs.Matrix.{BitMatrix, checkOf, checksOf}
 use Rattle.symbology.specs.Rule.{bitSum, unmet, unmetCount, unmetAt, metAt, isSuspect, suspect, turned, ends}
-use Rattle.symbology.specs.Mending.{LowestSuspect, Ended}
+use Rattle.symbology.specs.Steps.{LowestSuspect, Ended}
 use Rattle.symbology.proofs.Ranges.{clash}
 use Rattle.laws.proofs.Ranges.{by, or-left, or-right, or-none, lowest-to, lowest-holds, lowest-before, lowest-none, length-tabulate, getD-tabulate, has-append, has-those-past, lowest-is, those-out, those-ascending, those-in, those-under, has-at, Ascending, AllUnder}
 

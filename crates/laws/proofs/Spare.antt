@@ -15,7 +15,8 @@ use Rattle.symbology.proofs.Ranges.{and-left, and-right}
 use Rattle.laws.proofs.Ranges.{lowest-holds, lowest-before}
 use Rattle.laws.proofs.Kernel.{CheckColumnLaws}
 use Rattle.laws.proofs.Columns.{check-laws}
-use Rattle.laws.proofs.Elimination.{Inv, start, clear-message, pivot-check, clear-step, pivot-step}
+use Rattle.laws.proofs.Elimination.{start, clear-message, pivot-check, clear-step, pivot-step}
+use Rattle.laws.specs.Elimination.{Inv}
 use Rattle.laws.proofs.Counting.{rows-bound, number-both}
 
 -- ---- elimination of a matrix of functions

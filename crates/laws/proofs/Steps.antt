@@ -11,7 +11,7 @@ use lib.ListN.{length, getD}
 use borrow.Author.Tests.{ltb-true, ltb-false, lt-ltb, le-ltb}
 use Rattle.symbology.specs.Bits.{AllBits}
 use Rattle.symbology.specs.Rule.{bitSum, unmet, unmetCount, suspect, turned, ends, repairs, afterTurns, repairsOf, lastWord, stuck}
-use Rattle.symbology.specs.Mending.{LowestSuspect, Steps, Lowers, Ended}
+use Rattle.symbology.specs.Steps.{LowestSuspect, Steps, Lowers, Ended}
 use Rattle.laws.proofs.Ranges.{by}
 use Rattle.laws.proofs.Rule.{AllOnce, length-turned, turned-bits, step-lowers, suspect-lowest, lowest-suspect, ends-means, goes-means, ended-ends}
 

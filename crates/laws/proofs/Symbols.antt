@@ -1,37 +1,44 @@
--- The laws of layout and code at the sizes of every legal symbol: parameters, list and buffers that pass the tests 1 to 5.
+-- The laws of layout and code at the sizes of every legal symbol: parameters and list that pass the tests 1 to 3. What is received of a
+-- matrix, and the checks that it is judged by.
 -- Assumes nothing.
 use Prim.Native.Nat.{ℕ, _+_, _-_, _*_, _≤_, _<_}
-use mathlib.Core.Path.{_≡_, sym, ap, _∙_}
-use mathlib.Core.List.{List, [], _++_}
+use mathlib.Core.Path.{_≡_, refl, sym, ap, ap₂, _∙_}
+use mathlib.Core.Bool.{true}
+use mathlib.Core.List.{List, [], _∷_, _++_}
 use native.Mathlib.Nat.{le-trans}
 use native.Mathlib.Omega.{arith}
+use lib.Dec.{eqb}
 use lib.ListN.{length, getD, replicate}
+use lib.Seq.{length-take-le}
+use borrow.Author.Tests.{eq-eqb, eqb-true}
 use Rattle.symbology.specs.declared.Params.{Params}
 use Rattle.symbology.specs.declared.Sizes.{Sizes}
 use Rattle.symbology.specs.Ranges.{tally, those, sumFrom, has}
 use Rattle.symbology.specs.Bits.{AllBits}
 use Rattle.symbology.specs.Sides.{columns, rows}
 use Rattle.symbology.specs.Reserved.{entries}
-use Rattle.symbology.specs.Capacity.{dataModules, sizesOf}
+use Rattle.symbology.specs.Capacity.{dataModules, sizesOf, sizesFor}
 use Rattle.symbology.specs.Matrix.{matrixSeed, checkOf, checksOf}
+use Rattle.symbology.specs.Shuffle.{interleavingSeed}
 use Rattle.symbology.specs.Placement.{filled, sampled}
-use Rattle.symbology.specs.Tests.{sizesFor}
-use Rattle.symbology.specs.Write.{matrixFor, codewordFor}
+use Rattle.symbology.specs.Code.{matrixFor, codewordFor, checksFor, messageBitsFor}
 use Rattle.symbology.specs.Rule.{unmetCount}
 use Rattle.symbology.specs.Codeword.{messageColumns}
-use Rattle.symbology.specs.Read.{checksFor, messageBitsFor}
-use Rattle.laws.proofs.Ranges.{getD-tabulate, has-those, Ascending}
+use Rattle.symbology.specs.Symbol.{receivedBits, receivedWord, sameBits}
+use Rattle.symbology.proofs.Ranges.{clash, and-left, and-right}
+use Rattle.laws.proofs.Ranges.{length-tabulate, getD-tabulate, has-those, Ascending}
+use Rattle.laws.proofs.Bits.{take-bits}
 use Rattle.laws.proofs.Counting.{number-ext}
-use Rattle.laws.proofs.Tests.{Legal}
 use Rattle.laws.proofs.Reserved.{sound-list}
 use Rattle.laws.proofs.DataModules.{free, data-free, data-count}
-use Rattle.laws.proofs.Placement.{filled-below, sampled-filled}
+use Rattle.laws.proofs.Placement.{filled-below, sampled-filled, sampled-bits}
+use Rattle.laws.proofs.Shuffle.{length-unshuffled, unshuffled-every}
 use Rattle.laws.proofs.Matrix.{column-weight, check-weight}
-use Rattle.laws.proofs.Rule.{check-ascends}
-use Rattle.laws.proofs.Sizes.{capacity-is, gross-most, net-fits}
+use Rattle.laws.proofs.Rule.{AllOnce, checks-once, check-ascends, unmet-most}
+use Rattle.laws.proofs.Sizes.{LegalSymbol, capacity-is, sampled-whole, gross-most, net-fits}
 use Rattle.laws.proofs.Codeword.{IsCodeword, codeword-is, codeword-found, message-back}
 
-module _ (p : Params) (l : List ℕ) (modules room : ℕ) (legal : Legal p l modules room) where
+module _ (p : Params) (l : List ℕ) (legal : LegalSymbol p l) where
   -- ---- layout
 
   -- The modules that are neither pattern nor entry number exactly D.
@@ -41,7 +48,7 @@ module _ (p : Params) (l : List ℕ) (modules room : ℕ) (legal : Legal p l mod
 
   -- Sampling what was filled with the C bits of the capacity gives them back, for every mask.
   pub symbol-back : (bs : List ℕ) → AllBits bs → length bs ≡ sizesFor p l .capacity → sampled p l (filled p l bs) ≡ bs
-  symbol-back bs bits long = sampled-filled p l bs bits (long ∙ sym (capacity-is p l modules room legal))
+  symbol-back bs bits long = sampled-filled p l bs bits (long ∙ sym (capacity-is p l legal))
 
   -- Every module filled is below N.
   pub symbol-below : (bs : List ℕ) (i : ℕ) → i < rows p * columns p → getD (filled p l bs) i 0 < p .colours
@@ -115,6 +122,49 @@ module _ (p : Params) (l : List ℕ) (modules room : ℕ) (legal : Legal p l mod
   symbol-message net bits long =
       let s : Sizes = sizesFor p l in
       let columns : List ℕ = messageColumns (s .checks) (s .gross) (matrixFor s) in
-      let fits : length net ≤ length columns = omega (arith, long, net-fits p l modules room legal) in
+      let fits : length net ≤ length columns = omega (arith, long, net-fits p l legal) in
       message-back (s .checks) (s .gross) (matrixFor s) net bits fits
       ∙ ap (λ (n : ℕ). net ++ replicate (length columns - n) 0) long
+
+-- ---- received
+
+-- what is received of any matrix are bits
+pub received-bits : (p : Params) (l matrix : List ℕ) → AllBits (receivedWord p l matrix)
+unfolding receivedWord receivedBits
+received-bits p l matrix =
+    take-bits (sizesFor p l .gross) (receivedBits p l matrix) (unshuffled-every 0 (λ (b : ℕ). b ≤ 1) interleavingSeed (sampled p l matrix) (sampled-bits p l matrix))
+
+-- and there are Pg of them
+pub length-received : (p : Params) (l matrix : List ℕ)
+    → LegalSymbol p l
+    → length (receivedWord p l matrix) ≡ sizesFor p l .gross
+unfolding receivedWord receivedBits
+length-received p l matrix k =
+    let whole : length (receivedBits p l matrix) ≡ sizesFor p l .capacity = length-unshuffled 0 interleavingSeed (sampled p l matrix) ∙ sampled-whole p l matrix k in
+    length-take-le (sizesFor p l .gross) (receivedBits p l matrix) (omega (arith, whole, gross-most p l))
+
+-- the checks of a symbol name each of their columns once
+pub symbol-once : (s : Sizes) → AllOnce (checksFor s)
+unfolding checksFor
+symbol-once s = checks-once (s .checks) (s .gross) _
+
+-- and at most K of them are unmet
+pub symbol-unmet : (s : Sizes) (w : List ℕ) → unmetCount (checksFor s) w ≤ s .checks
+unfolding checksFor checksOf
+symbol-unmet s w = omega (arith, unmet-most (checksFor s) w, length-tabulate (s .checks) (checkOf (s .gross) (matrixFor s)))
+
+-- the comparison of test 8 holds of equal lists
+pub same-self : (bs : List ℕ) → sameBits bs bs ≡ true
+unfolding sameBits
+same-self [] = refl
+same-self (b ∷ bs) = rw (eq-eqb b b refl) (same-self bs)
+
+-- and of no others
+pub same-means : (bs cs : List ℕ) → sameBits bs cs ≡ true → bs ≡ cs
+unfolding sameBits
+same-means [] [] e = refl
+same-means [] (c ∷ cs) e = clash e refl
+same-means (b ∷ bs) [] e = clash e refl
+same-means (b ∷ bs) (c ∷ cs) e =
+    ap₂ (λ (x : ℕ) (xs : List ℕ). x ∷ xs) (eqb-true b c (and-left (eqb b c) (sameBits bs cs) e))
+    (same-means bs cs (and-right (eqb b c) (sameBits bs cs) e))

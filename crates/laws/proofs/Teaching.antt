@@ -14,8 +14,8 @@ use Rattle.symbology.specs.Bits.{AllBits, bitwiseSum}
 use Rattle.symbology.specs.Sides.{columns, rows}
 use Rattle.symbology.specs.Shuffle.{shuffled}
 use Rattle.symbology.specs.Placement.{isData, cellAt, maskAt, masked}
-use Rattle.symbology.specs.Tests.{sizesFor}
-use Rattle.symbology.specs.Write.{matrixFor, codewordFor}
+use Rattle.symbology.specs.Capacity.{sizesFor}
+use Rattle.symbology.specs.Code.{matrixFor, codewordFor}
 use Rattle.laws.proofs.Masks.{mask-twice}
 use Rattle.laws.proofs.Placement.{length-masked, getD-masked}
 use Rattle.laws.proofs.BitwiseSum.{length-sum, first-sum, codeword-sum}

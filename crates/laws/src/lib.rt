@@ -1,1 +1,2 @@
-// Theorems about the definitions of `symbology` alone, in proofs/. This crate has no functions.
+// Theorems about the definitions of `symbology`, in proofs/; those about the calls stand in `call_laws`.
+// This crate has no functions.

@@ -14,9 +14,9 @@ use Rattle.symbology.specs.declared.ListVerdict.the-variants.{Sound}
 use Rattle.symbology.specs.Parameters.{inRange}
 use Rattle.symbology.specs.Sides.{columns, rows}
 use Rattle.symbology.specs.Reserved.{listVerdict}
-use Rattle.symbology.specs.Capacity.{bitsPerModule}
-use Rattle.symbology.specs.Placement.{rank, bitsAt, sampled, taken}
-use Rattle.symbology.specs.Tests.{sizesFor}
+use Rattle.symbology.specs.Capacity.{bitsPerModule, sizesFor}
+use Rattle.symbology.specs.Placement.{rank, bitsAt, sampled}
+use Rattle.laws.specs.Sampling.{taken}
 use Rattle.laws.proofs.Ranks.{dataTotal, rank-most}
 use Rattle.laws.proofs.Placement.{taken-first, taken-next, taken-column, taken-last, length-taken, length-sampled}
 use Rattle.laws.proofs.Sizes.{data-bits}

@@ -12,8 +12,9 @@ use Rattle.symbology.specs.declared.ListVerdict.the-variants.{Sound}
 use Rattle.symbology.specs.Parameters.{inRange}
 use Rattle.symbology.specs.Sides.{columns, rows}
 use Rattle.symbology.specs.Reserved.{listVerdict}
-use Rattle.symbology.specs.Placement.{rank, moduleAt, taken}
-use Rattle.symbology.specs.Tests.{sizesFor}
+use Rattle.symbology.specs.Placement.{rank, moduleAt}
+use Rattle.laws.specs.Sampling.{taken}
+use Rattle.symbology.specs.Capacity.{sizesFor}
 use Rattle.patterns.specs.declared.SideCores.{SideCores}
 use Rattle.patterns.specs.Cores.{coresFor}
 

@@ -10,8 +10,7 @@ use Rattle.symbology.specs.declared.Sizes.{Sizes}
 use Rattle.symbology.specs.Bits.{AllBits, anyOne}
 use Rattle.symbology.specs.Rule.{unmetCount, repairsOf, lastWord, stuck}
 use Rattle.symbology.specs.Codeword.{codeword}
-use Rattle.symbology.specs.Write.{matrixFor, codewordFor}
-use Rattle.symbology.specs.Read.{checksFor, messageBitsFor}
+use Rattle.symbology.specs.Code.{matrixFor, codewordFor, checksFor, messageBitsFor}
 use Rattle.laws.proofs.Agree.{checks-same, codeword-same, message-same}
 use Rattle.lent.specs.Buffer.{part, Laid, ChangedInBoth}
 use Rattle.lent.proofs.Buffer.{laid-as, part-same, both-wider, both-then, both-front, both-back}

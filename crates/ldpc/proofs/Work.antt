@@ -2,26 +2,22 @@
 -- Assumes nothing.
 use Prim.Native.Nat.{ℕ, _+_, _*_, _/_, _≤_, _<_}
 use mathlib.Core.Path.{_≡_, refl, sym, ap, _∙_, subst⁻¹}
-use mathlib.Core.Bool.{true}
 use mathlib.Core.List.{List}
 use native.Mathlib.Nat.{le-div-iff-mul-le, mul-div-cancel-left}
 use native.Mathlib.Omega.{arith}
 use Rattle.symbology.specs.declared.Params.{Params}
 use Rattle.symbology.specs.declared.Sizes.{Sizes}
-use Rattle.symbology.specs.Capacity.{sizesOf}
-use Rattle.symbology.specs.Tests.{sizesFor}
-use Rattle.symbology.specs.Write.{isLegal}
+use Rattle.symbology.specs.Capacity.{sizesOf, sizesFor}
 use Rattle.laws.proofs.Parameters.{ranges}
-use Rattle.laws.proofs.Tests.{Legal, legal}
-use Rattle.laws.proofs.Sizes.{gross-most, gross-parts}
+use Rattle.laws.proofs.Sizes.{LegalSymbol, gross-most, gross-parts}
 use Rattle.lent.specs.declared.Areas.{Areas}
 use Rattle.lent.specs.Buffer.{Laid}
 use Rattle.ldpc.specs.Work.{areasOf, CodeSizes}
 
 -- The sizes of a legal symbol belong together.
-pub code-sizes : (p : Params) (l : List ℕ) (modules room : ℕ) → Legal p l modules room → CodeSizes (sizesFor p l)
+pub code-sizes : (p : Params) (l : List ℕ) → LegalSymbol p l → CodeSizes (sizesFor p l)
 unfolding sizesOf
-code-sizes p l modules room k =
+code-sizes p l k =
     let heavy : 0 < p .wr = omega (arith, ranges p (k .in-range) .wr-least) in
     let least : 1 * p .wr ≤ sizesFor p l .capacity = omega (arith, k .least) in
     record {
@@ -30,7 +26,7 @@ code-sizes p l modules room k =
       heavy = heavy;
       gross-is = refl;
       checks-is = refl;
-      parts = gross-parts p l modules room k;
+      parts = gross-parts p l k;
       inside = gross-most p l;
       few = k .most;
       work-is = refl;
@@ -51,12 +47,14 @@ areas-laid {s} k h =
       message-end = omega (arith, k .work-is, k .parts, k .inside);
     }
 
--- The sizes belong together and the buffer is long enough, where parameters, list and buffers are legal.
-pub legal-sizes : (p : Params) (l : List ℕ) (modules room : ℕ) {s : Sizes} → isLegal p l modules room ≡ true → s ≡ sizesFor p l
+-- The sizes of a legal symbol belong together, and a buffer that test 5 lets pass is long enough.
+pub legal-sizes : (p : Params) (l : List ℕ) {s : Sizes} {room : ℕ}
+    → LegalSymbol p l
+    → sizesFor p l .work ≤ room
+    → s ≡ sizesFor p l
     → CodeSizes s × (s .work ≤ room)
-legal-sizes p l modules room e same =
-    let k : Legal p l modules room = legal p l modules room e in
-    (subst⁻¹ CodeSizes same (code-sizes p l modules room k), omega (arith, k .enough, ap (λ (z : Sizes). z .work) same))
+legal-sizes p l {room = room} k enough same =
+    subst⁻¹ (λ (t : Sizes). CodeSizes t × (t .work ≤ room)) same (code-sizes p l k, enough)
 
 module _ {s : Sizes} {a : Areas} {room : ℕ} (k : CodeSizes s) (h : s .work ≤ room) (e : a ≡ areasOf s) where
   -- the net bits lie in the buffer

@@ -8,8 +8,7 @@ use lib.ListN.{length, take, drop}
 use Rattle.symbology.specs.declared.Sizes.{Sizes}
 use Rattle.symbology.specs.Bits.{anyOne}
 use Rattle.symbology.specs.Rule.{unmetCount, repairsOf, lastWord, stuck}
-use Rattle.symbology.specs.Write.{codewordFor}
-use Rattle.symbology.specs.Read.{checksFor, messageBitsFor}
+use Rattle.symbology.specs.Code.{codewordFor, checksFor, messageBitsFor}
 use Rattle.lent.specs.Buffer.{ChangedInBoth}
 use Rattle.ldpc.specs.Work.{areasOf, wordFor, netFor, HoldsA}
 

@@ -5,7 +5,7 @@ use mathlib.Core.Path.{_≡_}
 use mathlib.Core.List.{List}
 use Rattle.symbology.specs.declared.Sizes.{Sizes}
 use Rattle.symbology.specs.Capacity.{rowBytes, workBytes}
-use Rattle.symbology.specs.Write.{matrixFor}
+use Rattle.symbology.specs.Code.{matrixFor}
 use Rattle.lent.specs.declared.Areas.{Areas}
 use Rattle.lent.specs.Buffer.{part}
 use Rattle.dense.specs.Dense.{denseBits}

@@ -256,6 +256,12 @@ cleared-rest from xs ys h c =
           ∙ sym (rw place (getD-append-add front zeros k 0 ∙ getD-replicate (length xs - from) k 0 0 (omega (arith, c .changed .long))))
     ])
 
+-- a buffer cleared whole
+pub cleared-whole : (xs ys : List ℕ) {n : ℕ} → length xs ≡ n → Cleared 0 (length xs) xs ys → ys ≡ replicate n 0
+cleared-whole xs ys {n} long c =
+    let same : length xs - 0 ≡ n = omega arith in
+    cleared-rest 0 xs ys (omega arith) c ∙ ap (λ (k : ℕ). replicate {A = ℕ} k 0) same
+
 -- ---- two areas
 
 pub both-none : (end from to : ℕ) (xs : List ℕ) → ChangedInBoth end from to xs xs

@@ -1,3 +1,2 @@
 pub mod Buffer
 mod Counting
-pub mod Work

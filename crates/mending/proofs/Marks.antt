@@ -13,7 +13,8 @@ use Rattle.symbology.specs.Ranges.{tally, those, has}
 use Rattle.symbology.specs.Matrix.{checkOf}
 use Rattle.symbology.specs.Rule.{unmet, turned}
 use Rattle.laws.proofs.Ranges.{those-ext, has-those}
-use Rattle.laws.proofs.Gf2.{dot, dot-ext}
+use Rattle.laws.proofs.Gf2.{dot-ext}
+use Rattle.laws.specs.Gf2.{dot}
 use Rattle.laws.proofs.Rule.{once-those, length-turned, turned-there, turned-elsewhere, unmet-change}
 use Rattle.lent.specs.declared.Areas.{Areas}
 use Rattle.lent.specs.Buffer.{ChangedIn, Laid}

@@ -12,7 +12,7 @@ use borrow.Author.Tests.{ne-eqb}
 use Rattle.symbology.specs.Bits.{AllBits}
 use Rattle.symbology.specs.Matrix.{BitMatrix, checkOf, checksOf}
 use Rattle.symbology.specs.Rule.{unmetCount, suspect, turned, ends, repairsOf, lastWord, stuck}
-use Rattle.symbology.specs.Mending.{Ended}
+use Rattle.symbology.specs.Steps.{Ended}
 use Rattle.laws.proofs.Ranges.{length-tabulate}
 use Rattle.laws.proofs.Rule.{AllOnce, checks-once, turned-bits, step-lowers, suspect-to, suspect-lowest, suspect-none, unmet-most, ended-ends}
 use Rattle.laws.proofs.Steps.{run-ends, run-goes}

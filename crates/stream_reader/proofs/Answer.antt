@@ -2,24 +2,25 @@
 -- Assumes nothing.
 use Prim.Native.Nat.{ℕ, _-_, _≤_, _<_}
 use mathlib.Core.Path.{_≡_, refl, sym, ap, _∙_}
+use mathlib.Core.Logic.{_⊎_, inl, inr}
 use mathlib.Core.Bool.{true}
 use mathlib.Core.List.{List, [], _∷_, _++_}
-use native.Mathlib.Nat.{zero-add}
 use native.Mathlib.Omega.{arith}
 use lib.ListN.{length, take}
-use lib.Seq.{sets, length-sets, sets-eq}
-use borrow.Author.Tests.{ne-eqb, lt-ltb, le-ltb}
-use Rattle.symbology.specs.declared.ReadAnswer.{ReadAnswer}
+use lib.Seq.{sets, length-sets}
+use borrow.Author.Tests.{lt-ltb, le-ltb}
 use Rattle.symbology.specs.Bits.{anyOne}
 use Rattle.symbology.specs.Stream.{decode}
 use Rattle.symbology.specs.Net.{upToLastOne, streamIn}
-use Rattle.symbology.specs.Tests.{firstOf}
-use Rattle.symbology.specs.Read.{counted, done, answerFromNet, messageAfter}
 use Rattle.laws.proofs.Ranges.{by}
 use Rattle.laws.proofs.Net.{upTo-none, none-upTo}
-use Rattle.laws.proofs.Answers.{Answered, refusal-answered}
-use Rattle.stream_reader.specs.declared.StreamAnswer.{StreamAnswer}
-use Rattle.stream_reader.specs.Reading.{StreamRead}
+use Rattle.laws.proofs.Stream.{decode-number}
+use Rattle.calls.specs.declared.StreamAnswer.{StreamAnswer}
+use Rattle.calls.specs.Answers.{streamRefused, streamDone}
+use Rattle.calls.specs.Tests.{firstOf, streamRows}
+use Rattle.calls.specs.Read.{messageInNet, frontAfter, streamAnswer}
+use Rattle.call_laws.proofs.Answers.{refused-front}
+use Rattle.stream_reader.specs.Reading.{StreamRead, NetRead}
 
 -- a pass over an empty part of the buffer leaves the buffer
 part-kept : (before bytes : List ℕ) {last : List ℕ} → last ≡ sets [] 0 bytes → last ++ before ≡ before
@@ -40,18 +41,17 @@ stream-is : (net : List ℕ) {end : ℕ} → end ≡ upToLastOne net → take (e
 unfolding streamIn
 stream-is net e = rw e
 
-module _ (net : List ℕ) (repairs unmet : ℕ) (before : List ℕ) where
-  abbrev FromNet : ReadAnswer → List ℕ → Type 0
-  FromNet a after = Answered (answerFromNet net repairs unmet (length before)) (decode (streamIn net) .bytes) before a after
-
+module _ (net : List ℕ) (room : ℕ) (before : List ℕ) where
   -- a refusal leaves the buffer
-  refusing : {a : ReadAnswer} {after : List ℕ} {k : ℕ} → a ≡ counted k repairs unmet → (k ≡ 0 → ⊥) → after ≡ before
-      → answerFromNet net repairs unmet (length before) ≡ counted k repairs unmet → FromNet a after
-  refusing {k = k} e some kept same = refusal-answered (counted k repairs unmet) (decode (streamIn net) .bytes) before some e kept same
+  refusing : {a : StreamAnswer} {after : List ℕ} {k : ℕ} → (k ≡ 0 → ⊥) → a ≡ streamRefused k 0 → after ≡ before
+      → streamAnswer net room ≡ streamRefused k 0 → NetRead net room before after a
+  refusing {a} some e kept same =
+      let other : a .number ≡ 0 → ⊥ = λ z. some (sym (ap (λ (b : StreamAnswer). b .number) e) ∙ z) in
+      record { answer-is = e ∙ sym same; message-is = kept ∙ sym (refused-front (a .number) (messageInNet net) before other) }
 
-  pub all-zero : {a : ReadAnswer} {end : ℕ} → end ≡ upToLastOne net → end ≡ 0 → a ≡ counted 11 repairs unmet → FromNet a before
-  unfolding answerFromNet firstOf
-  all-zero is none e = refusing e (λ z. omega arith) refl (rw (upTo-none net (sym is ∙ none)))
+  pub all-zero : {a : StreamAnswer} {end : ℕ} → end ≡ upToLastOne net → end ≡ 0 → a ≡ streamRefused 11 0 → NetRead net room before before a
+  unfolding streamAnswer streamRows firstOf
+  all-zero is none e = refusing (λ z. omega arith) e refl (rw (upTo-none net (sym is ∙ none)))
 
   module _ {end : ℕ} {last : List ℕ} {r : StreamAnswer} (c : Counted net end last r) where
     marked : anyOne net ≡ true
@@ -63,26 +63,34 @@ module _ (net : List ℕ) (repairs unmet : ℕ) (before : List ℕ) where
     number-is : r .number ≡ decode (streamIn net) .number
     number-is = c .first .number-is ∙ ap (λ (s : List ℕ). decode s .number) (stream-is net (c .end-is))
 
-    count-is : r .count ≡ length (decode (streamIn net) .bytes)
-    count-is = c .first .count-is ∙ ap (λ (s : List ℕ). length (decode s .bytes)) (stream-is net (c .end-is))
+    length-is : r .length ≡ length (messageInNet net)
+    length-is = c .first .length-is ∙ ap (λ (s : List ℕ). length (decode s .bytes)) (stream-is net (c .end-is))
 
-    pub bad-code : {a : ReadAnswer} → (r .number ≡ 0 → ⊥) → a ≡ counted (r .number) repairs unmet → FromNet a (last ++ before)
-    unfolding answerFromNet firstOf
-    bad-code h e = refusing e h kept (rw (marked, sym number-is, ne-eqb (r .number) 0 h))
+    -- the stream's number is one of 12 and 13, each of which has its row
+    stream-number : (n : ℕ) → n ≡ decode (streamIn net) .number → (n ≡ 0 → ⊥) → (n ≡ 0) ⊎ (n ≡ 12) ⊎ (n ≡ 13)
+        → streamAnswer net room ≡ streamRefused n 0
+    unfolding streamAnswer streamRows firstOf
+    stream-number n is some (inl e) = absurd (some e)
+    stream-number n is some (inr (inl e)) = rw (marked, sym is, e)
+    stream-number n is some (inr (inr e)) = rw (marked, sym is, e)
 
-    pub no-room : {a : ReadAnswer} → r .number ≡ 0 → length (last ++ before) < r .count → a ≡ counted 14 repairs unmet
-        → FromNet a (last ++ before)
-    unfolding answerFromNet firstOf
+    pub bad-code : {a : StreamAnswer} → (r .number ≡ 0 → ⊥) → a ≡ streamRefused (r .number) 0 → NetRead net room before (last ++ before) a
+    bad-code h e =
+        refusing h e kept (stream-number (r .number) number-is h (rw number-is (decode-number (streamIn net))))
+
+    pub no-room : {a : StreamAnswer} → r .number ≡ 0 → room < r .length → a ≡ streamRefused 14 0 → NetRead net room before (last ++ before) a
+    unfolding streamAnswer streamRows firstOf
     no-room z h e =
-        let more : length before < length (decode (streamIn net) .bytes) = omega (arith, ap length kept, count-is) in
-        refusing e (λ z. omega arith) kept (rw (marked, sym number-is, z, lt-ltb (length before) (length (decode (streamIn net) .bytes)) more))
+        let more : room < length (messageInNet net) = omega (arith, length-is) in
+        refusing (λ k. omega arith) e kept (rw (marked, sym number-is, z, lt-ltb room (length (messageInNet net)) more))
 
-    pub message-read : {after : List ℕ} {second : StreamAnswer} → r .number ≡ 0 → r .count ≤ length (last ++ before)
-        → StreamRead (decode (take (end - 1) net)) (last ++ before) after second → FromNet (done (second .count) repairs unmet) after
-    unfolding answerFromNet firstOf messageAfter
-    message-read {after} {second} z h read =
-        let bytes : List ℕ = decode (streamIn net) .bytes in
-        let fits : length bytes ≤ length before = omega (arith, ap length kept, count-is) in
-        let long : second .count ≡ length bytes = read .count-is ∙ ap (λ (s : List ℕ). length (decode s .bytes)) (stream-is net (c .end-is)) in
+    pub message-read : {a : StreamAnswer} {after : List ℕ} {second : StreamAnswer} → r .number ≡ 0 → r .length ≤ room
+        → StreamRead (decode (take (end - 1) net)) (last ++ before) after second → a ≡ streamDone (second .length)
+        → NetRead net room before after a
+    unfolding streamAnswer streamRows firstOf frontAfter
+    message-read {a} {after} {second} z h read e =
+        let bytes : List ℕ = messageInNet net in
+        let fits : length bytes ≤ room = omega (arith, length-is) in
+        let long : second .length ≡ length bytes = read .length-is ∙ ap (λ (s : List ℕ). length (decode s .bytes)) (stream-is net (c .end-is)) in
         let stored : after ≡ sets before 0 bytes = read .stored ∙ rw (stream-is net (c .end-is), kept) in
-        (rw (marked, sym number-is, z, long, le-ltb (length before) (length bytes) fits), stored ∙ sets-eq bytes before 0 (omega arith) ∙ rw (zero-add (length bytes)))
+        record { answer-is = e ∙ rw (marked, sym number-is, z, long, le-ltb room (length bytes) fits); message-is = stored ∙ rw e refl }

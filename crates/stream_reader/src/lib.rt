@@ -2,28 +2,20 @@
 //
 // `read_net` serves the read of a symbol. One loop, that of `read_stream`, counts the bytes of a stream
 // where it is lent an empty buffer, and stores them where it is lent the caller's.
+use calls::StreamAnswer;
 use characters::CodeBytes;
 use symbology::Expected;
 use symbology::Mode;
 use symbology::ModeAnswer;
-use symbology::ReadAnswer;
 ghost use Prim.Native.Nat.{_<_, _^_};
 ghost use mathlib.Core.Path.{_≡_};
-ghost use lib.ListN.{length};
 ghost use Rattle.characters.specs.Bytes.{bytesIn};
 ghost use Rattle.pieces.specs.Pieces.{StoredAt};
-ghost use Rattle.stream_reader.specs.Reading.{StreamRead};
+ghost use Rattle.stream_reader.specs.Reading.{StreamRead, NetRead};
 ghost use Rattle.symbology.specs.Stream.{decode};
-ghost use Rattle.symbology.specs.Net.{upToLastOne, streamIn};
-ghost use Rattle.symbology.specs.Read.{answerFromNet, messageAfter, counted};
+ghost use Rattle.symbology.specs.Net.{upToLastOne};
 
 // ---- streams
-
-// What a stream gave: document 01's number, 0, 12 or 13, and how many bytes until there.
-pub struct StreamAnswer {
-    pub number: u32,
-    pub count: usize,
-}
 
 // Stores the bytes of a code.
 fn put_bytes(out: &mut [u8], at: usize, b: CodeBytes) -> usize
@@ -44,7 +36,8 @@ fn put_bytes(out: &mut [u8], at: usize, b: CodeBytes) -> usize
     pieces::put(out, third, b.third)
 }
 
-// Reads a stream from uppercase mode, code by code, and stores its bytes as far as the buffer reaches.
+// Reads a stream from uppercase mode, code by code, and stores its bytes as far as the buffer reaches. The
+// length is that of the bytes read, also where a code is refused.
 pub fn read_stream(stream: &[u8], out: &mut [u8]) -> StreamAnswer
     ensures { λ r. ⌜ StreamRead (decode (now (stream .entry))) (now (out .entry)) (now (out .exit)) r ⌝ }
 {
@@ -58,7 +51,7 @@ pub fn read_stream(stream: &[u8], out: &mut [u8]) -> StreamAnswer
         if left < width {
             return StreamAnswer {
                 number: modes::end_number(expected, left),
-                count,
+                length: count,
             };
         }
         let v = bitfield::bits_value(stream, at, width);
@@ -68,7 +61,7 @@ pub fn read_stream(stream: &[u8], out: &mut [u8]) -> StreamAnswer
         let ModeAnswer::Next(next, owed) = answer else {
             return StreamAnswer {
                 number: modes::mode_number(answer),
-                count,
+                length: count,
             };
         };
         mode = next;
@@ -92,43 +85,24 @@ pub fn up_to_last_one(net: &[u8]) -> usize
     n
 }
 
-// A refusal that comes after the mending: its counts stand, the length is 0.
-pub fn late_refusal(number: u32, repairs: usize, unmet: usize) -> ReadAnswer
-    ensures { λ r. ⌜ r ≡ counted number repairs unmet ⌝ }
-{
-    ReadAnswer {
-        number,
-        place: 0,
-        length: 0,
-        repairs,
-        unmet,
-    }
-}
-
-// Reads net bits: the tests 11 to 14, and on 0 the message over the front of its buffer. The stream is
-// read to its end before the first byte is stored, so that a refusal leaves the buffer as it came.
-pub fn read_net(net: &[u8], repairs: usize, unmet: usize, message: &mut [u8]) -> ReadAnswer
-    ensures { λ r. ⌜ r ≡ answerFromNet (now (net .entry)) repairs unmet (length (now (message .entry))) ⌝ }
-    ensures { λ r. ⌜ now (message .exit) ≡ messageAfter r (decode (streamIn (now (net .entry))) .bytes) (now (message .entry)) ⌝ }
+// Reads net bits: the tests 11 to 14, with room for so many bytes, and on 0 the message over the front of its
+// buffer, as far as that reaches. The stream is read to its end before the first byte is stored, so that a
+// refusal leaves the buffer as it came; with an empty buffer the message's length is learnt and nothing stored.
+pub fn read_net(net: &[u8], room: usize, message: &mut [u8]) -> StreamAnswer
+    ensures { λ r. ⌜ NetRead (now (net .entry)) room (now (message .entry)) (now (message .exit)) r ⌝ }
 {
     let end = up_to_last_one(net);
     if end == 0 {
-        return late_refusal(11, repairs, unmet);
+        return calls::stream_refused(11);
     }
     let mark = end - 1;
     let first = read_stream(&net[..mark], &mut message[..0]);
     if first.number != 0 {
-        return late_refusal(first.number, repairs, unmet);
+        return calls::stream_refused(first.number);
     }
-    if message.len() < first.count {
-        return late_refusal(14, repairs, unmet);
+    if room < first.length {
+        return calls::stream_refused(14);
     }
     let second = read_stream(&net[..mark], message);
-    ReadAnswer {
-        number: 0,
-        place: 0,
-        length: second.count,
-        repairs,
-        unmet,
-    }
+    calls::stream_done(second.length)
 }

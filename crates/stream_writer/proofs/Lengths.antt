@@ -7,7 +7,7 @@ use native.Mathlib.Decide.{decLt}
 use native.Mathlib.Omega.{arith}
 use lib.ListN.{length}
 use borrow.Author.Tests.{lt-ltb, le-ltb, ne-eqb}
-use Rattle.symbology.specs.Stream.{byteStream}
+use Rattle.symbology.specs.Stream.{byteStream, streamOf}
 use Rattle.laws.proofs.ByteMode.{lastRun, streamLength, stream-length}
 
 -- a last run of no bytes, of at most 15, of more
@@ -36,5 +36,10 @@ last-bounds r = elim (decLt r 16) [
 ]
 
 -- eight bits for each byte at least, 32 at most
-pub stream-bounds : (m : List ℕ) → (8 * length m ≤ length (byteStream m)) × (length (byteStream m) ≤ 32 * length m)
+stream-bounds : (m : List ℕ) → (8 * length m ≤ length (byteStream m)) × (length (byteStream m) ≤ 32 * length m)
 stream-bounds m = omega (arith, whole-runs m, last-bounds (length m % 8206))
+
+-- the stream that is chosen has no fewer bits than the message has bytes, and 32 for each at most
+pub chosen-bounds : (m : List ℕ) → (length m ≤ length (streamOf m)) × (length (streamOf m) ≤ 32 * length m)
+unfolding streamOf
+chosen-bounds m = omega (arith, stream-bounds m)

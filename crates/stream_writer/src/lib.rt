@@ -1,4 +1,5 @@
-// The byte-mode stream of a message (002, 4.3.7), its end mark, and test 6. Bits lie one to a byte.
+// The byte-mode stream of a message (002, 4.3.7); the stream that a message is written as, which is that
+// one, with its end mark; and test 6. Bits lie one to a byte.
 //
 // `write_net` and `exceeds_net` serve the write of a symbol. The length of a stream is worked out from
 // that of the message, so that room is denied before anything is stored.
@@ -6,7 +7,7 @@ ghost use Prim.Native.Nat.{_+_, _*_, _≤_, _<_, _^_};
 ghost use mathlib.Core.Path.{_≡_};
 ghost use lib.ListN.{length};
 ghost use Rattle.pieces.specs.Pieces.{StoredAt};
-ghost use Rattle.symbology.specs.Stream.{longestRun, byteBits, runCount, byteRun, byteStream};
+ghost use Rattle.symbology.specs.Stream.{longestRun, byteBits, runCount, byteRun, byteStream, streamOf};
 ghost use Rattle.symbology.specs.Net.{withEndMark, exceeds};
 
 // The greatest length of a run, 15 + 8,191 bytes.
@@ -30,18 +31,6 @@ pub fn stream_length(message: &[u8]) -> usize
         return whole + (11 + 8 * rest);
     }
     whole + (24 + 8 * rest)
-}
-
-// Test 6: the stream of a message and its end mark exceed the net bits. A message of more bytes than
-// there are net bits is refused first, so that the length of any other can be worked out.
-pub fn exceeds_net(message: &[u8], net: usize) -> bool
-    requires { ⌜ net < 2 ^ 32 ⌝ }
-    ensures { λ r. ⌜ r ≡ exceeds (length (byteStream (now (message .entry)))) net ⌝ }
-{
-    if net < message.len() {
-        return true;
-    }
-    net < stream_length(message) + 1
 }
 
 // ---- runs. Each function stores from `at` on and answers the place behind what it stored.
@@ -96,7 +85,7 @@ fn run_end(from: usize, n: usize) -> usize
     n
 }
 
-// ---- streams and net bits
+// ---- the stream in byte mode
 
 // Stores the stream of a message in front of the buffer and answers its length.
 pub fn write_stream(message: &[u8], out: &mut [u8]) -> usize
@@ -113,12 +102,42 @@ pub fn write_stream(message: &[u8], out: &mut [u8]) -> usize
     at
 }
 
+// ---- the stream that is chosen, and its end mark
+
+// The bits of the stream that a message is written as.
+fn chosen_length(message: &[u8]) -> usize
+    requires { ⌜ length (now message) < 2 ^ 32 ⌝ }
+    ensures { λ r. ⌜ r ≡ length (streamOf (now (message .entry))) ⌝ }
+{
+    stream_length(message)
+}
+
+// Stores that stream in front of the buffer and answers its length.
+fn write_chosen(message: &[u8], out: &mut [u8]) -> usize
+    requires { ⌜ length (streamOf (now message)) ≤ length (now out) ⌝ }
+    ensures { λ r. ⌜ StoredAt (streamOf (now (message .entry))) 0 (now (out .entry)) (now (out .exit)) r ⌝ }
+{
+    write_stream(message, out)
+}
+
+// Test 6: the stream of a message and its end mark exceed the net bits. A message of more bytes than
+// there are net bits is refused first, so that the length of any other can be worked out.
+pub fn exceeds_net(message: &[u8], net: usize) -> bool
+    requires { ⌜ net < 2 ^ 32 ⌝ }
+    ensures { λ r. ⌜ r ≡ exceeds (length (streamOf (now (message .entry)))) net ⌝ }
+{
+    if net < message.len() {
+        return true;
+    }
+    net < chosen_length(message) + 1
+}
+
 // Stores the net bits of a message: its stream, a 1, then zeros to the end of the buffer.
 pub fn write_net(message: &[u8], net: &mut [u8])
-    requires { ⌜ length (byteStream (now message)) < length (now net) ⌝ }
-    ensures { λ _. ⌜ now (net .exit) ≡ withEndMark (length (now (net .entry))) (byteStream (now (message .entry))) ⌝ }
+    requires { ⌜ length (streamOf (now message)) < length (now net) ⌝ }
+    ensures { λ _. ⌜ now (net .exit) ≡ withEndMark (length (now (net .entry))) (streamOf (now (message .entry))) ⌝ }
 {
-    let end = write_stream(message, net);
+    let end = write_chosen(message, net);
     net[end] = 1;
     lent::clear(net, end + 1, net.len());
 }

@@ -5,120 +5,146 @@ use mathlib.Core.Path.{_≡_, refl, sym, ap, _∙_, subst}
 use mathlib.Core.Bool.{Bool, true, false}
 use mathlib.Core.List.{List, [], _∷_}
 use native.Mathlib.Omega.{arith}
-use lib.ListN.{length, take, drop}
+use lib.ListN.{length, take}
 use borrow.Author.Tests.{lt-ltb, le-ltb}
 use Rattle.symbology.specs.declared.Params.{Params}
 use Rattle.symbology.specs.declared.Sizes.{Sizes}
-use Rattle.symbology.specs.declared.ReadAnswer.{ReadAnswer}
-use Rattle.symbology.specs.Bits.{anyOne}
+use Rattle.symbology.specs.Capacity.{sizesFor}
 use Rattle.symbology.specs.Rule.{lastWord}
-use Rattle.symbology.specs.Stream.{decode}
-use Rattle.symbology.specs.Net.{streamIn}
+use Rattle.symbology.specs.Code.{checksFor, messageBitsFor}
 use Rattle.symbology.specs.Placement.{firstBadModule}
-use Rattle.symbology.specs.Tests.{Row, on, sizesFor}
-use Rattle.symbology.specs.Write.{isLegal}
-use Rattle.symbology.specs.Read.{refused, counted, receivedWord, checksFor, messageBitsFor, answerFromNet, answerFromAccepted, answerFromReceived, answerFromMatrix, readAnswer, messageInAccepted, messageIn, messageAfter}
-use Rattle.laws.proofs.Tests.{first-hit, first-miss, first-none, front-passed, legal}
-use Rattle.laws.proofs.Answers.{Answered, refusal-answered}
-use Rattle.laws.proofs.Stages.{from-stuck, from-mended, row7, row8}
+use Rattle.symbology.specs.Symbol.{receivedWord}
+use Rattle.calls.specs.declared.Counts.{Counts}
+use Rattle.calls.specs.declared.StreamAnswer.{StreamAnswer}
+use Rattle.calls.specs.declared.ReadAnswer.{ReadAnswer}
+use Rattle.calls.specs.Answers.{counted, refused, fromStream}
+use Rattle.calls.specs.Tests.{firstOf, spareOne, badModule, badStuffing, frontRows, earlyRows, isLegal}
+use Rattle.calls.specs.Read.{messageInAccepted, messageInNet, messageIn, frontAfter, streamAnswer, answerFromAccepted, countsOf, answerFromReceived, readAnswer}
+use Rattle.call_laws.proofs.Tests.{first-append, first-hit, first-miss, first-none, first-passed}
+use Rattle.call_laws.proofs.Stages.{accepted-stream, accepted-spare, from-stuck, from-mended}
+use Rattle.call_laws.proofs.Answers.{refused-front}
+use Rattle.stream_reader.specs.Reading.{NetRead}
 use Rattle.ldpc.specs.Work.{wordFor}
 use Rattle.ldpc.specs.Stages.{MendedFor}
+use Rattle.symbol_reader.specs.Stages.{Answered}
+
+-- a refusal that is the defined answer, and a buffer as it came
+refusal : (message before : List ℕ) {defined k a : ReadAnswer} → (k .number ≡ 0 → ⊥) → a ≡ k → defined ≡ k → Answered defined message before a before
+refusal message before {a = a} some e same =
+    let other : a .number ≡ 0 → ⊥ = λ z. some (sym (ap (λ (x : ReadAnswer). x .number) e) ∙ z) in
+    record { answer-is = e ∙ sym same; message-is = sym (refused-front (a .number) message before other) }
 
 -- ---- from the accepted word
 
-module _ (s : Sizes) (w : List ℕ) (repairs unmet : ℕ) (before : List ℕ) where
+module _ (s : Sizes) (w : List ℕ) (c : Counts) (room : ℕ) (before : List ℕ) where
   abbrev FromAccepted : ReadAnswer → List ℕ → Type 0
-  FromAccepted a after = Answered (answerFromAccepted s w repairs unmet (length before)) (messageInAccepted s w) before a after
-
-  -- the row of test 10
-  abbrev row10 : Row ReadAnswer
-  row10 = on (anyOne (drop (s .net) (messageBitsFor s w))) (counted 10 repairs unmet)
+  FromAccepted a after = Answered (answerFromAccepted s w c room) (messageInAccepted s w) before a after
 
   -- 10: a spare message column is 1
-  pub spare-one : {a : ReadAnswer} → row10 .test ≡ true → a ≡ counted 10 repairs unmet → FromAccepted a before
-  unfolding answerFromAccepted
-  spare-one t e =
-      let onward : ReadAnswer = answerFromNet (take (s .net) (messageBitsFor s w)) repairs unmet (length before) in
-      refusal-answered (counted 10 repairs unmet) (messageInAccepted s w) before (λ z. omega arith) e refl (first-hit row10 [] onward t)
+  pub spare-one : {a : ReadAnswer} → spareOne s w .test ≡ true → a ≡ counted c 10 0 → FromAccepted a before
+  spare-one t e = refusal (messageInAccepted s w) before (λ z. omega arith) e (accepted-spare s w c room t)
 
   -- none is
-  pub spare-none : {a : ReadAnswer} {after net : List ℕ} → row10 .test ≡ false → net ≡ take (s .net) (messageBitsFor s w)
-      → Answered (answerFromNet net repairs unmet (length before)) (decode (streamIn net) .bytes) before a after
+  pub spare-none : {a : ReadAnswer} {r : StreamAnswer} {after net : List ℕ} → spareOne s w .test ≡ false
+      → net ≡ take (s .net) (messageBitsFor s w)
+      → NetRead net room before after r
+      → a ≡ fromStream c r
       → FromAccepted a after
-  unfolding answerFromAccepted messageInAccepted
-  spare-none {a} t same read =
-      let onward : ReadAnswer = answerFromNet (take (s .net) (messageBitsFor s w)) repairs unmet (length before) in (
-        read .0
-            ∙ ap (λ (x : List ℕ). answerFromNet x repairs unmet (length before)) same
-            ∙ sym (first-miss row10 [] onward t ∙ first-none onward),
-        read .1 ∙ ap (λ (x : List ℕ). messageAfter a (decode (streamIn x) .bytes) before) same,
-      )
+  unfolding messageInAccepted
+  spare-none {a} {r} t same read e =
+      record {
+        answer-is =
+            e
+            ∙ ap (fromStream c) (read .answer-is ∙ ap (λ (x : List ℕ). streamAnswer x room) same)
+            ∙ sym (accepted-stream s w c room t);
+        message-is =
+            read .message-is
+            ∙ ap (λ (x : List ℕ). frontAfter (r .number) (messageInNet x) before) same
+            ∙ ap (λ (b : ReadAnswer). frontAfter (b .number) (messageInAccepted s w) before) (sym e);
+      }
 
 -- ---- from the received word
 
-module _ (s : Sizes) (w before : List ℕ) where
+module _ (s : Sizes) (w : List ℕ) (room : ℕ) (before : List ℕ) where
   abbrev FromReceived : ReadAnswer → List ℕ → Type 0
-  FromReceived a after = Answered (answerFromReceived s w (length before)) (messageInAccepted s (lastWord (checksFor s) w)) before a after
+  FromReceived a after = Answered (answerFromReceived s w room) (messageInAccepted s (lastWord (checksFor s) w)) before a after
 
-module _ {s : Sizes} {work mended : List ℕ} {repairs unmet : ℕ} {stuck : Bool} (m : MendedFor s work mended repairs unmet stuck) (before : List ℕ) where
+module _ {s : Sizes} {work mended : List ℕ} {repairs unmet : ℕ} {stuck : Bool} (m : MendedFor s work mended repairs unmet stuck)
+    (room : ℕ) (before : List ℕ) where
+  abbrev counts : Counts
+  counts = record { repairs = repairs; unmet = unmet }
+
+  counts-are : counts ≡ countsOf s (wordFor s work)
+  counts-are = rw (m .repairs-are, m .first-is) refl
+
   -- 9: stuck
-  pub stuck-word : {a : ReadAnswer} → stuck ≡ true → a ≡ counted 9 repairs unmet → FromReceived s (wordFor s work) before a before
+  pub stuck-word : {a : ReadAnswer} → stuck ≡ true → a ≡ counted counts 9 0 → FromReceived s (wordFor s work) room before a before
   stuck-word t e =
-      refusal-answered (counted 9 repairs unmet) (messageInAccepted s (lastWord (checksFor s) (wordFor s work))) before (λ z. omega arith) e refl
-      (from-stuck s (wordFor s work) (length before) (sym (m .stuck-is) ∙ t)
-      ∙ sym (rw (m .repairs-are, m .first-is)))
+      refusal (messageInAccepted s (lastWord (checksFor s) (wordFor s work))) before (λ z. omega arith) e
+      (from-stuck s (wordFor s work) room (sym (m .stuck-is) ∙ t) ∙ ap (λ (c : Counts). counted c 9 0) (sym counts-are))
 
   -- not stuck
-  pub mended-word : {a : ReadAnswer} {after : List ℕ} → stuck ≡ false → FromAccepted s (wordFor s mended) repairs unmet before a after
-      → FromReceived s (wordFor s work) before a after
-  mended-word {a} t read = (
-    read .0
-        ∙ rw (m .word-is, m .repairs-are, m .first-is) (sym (from-mended s (wordFor s work) (length before) (sym (m .stuck-is) ∙ t))),
-    read .1 ∙ ap (λ (x : List ℕ). messageAfter a (messageInAccepted s x) before) (m .word-is),
-  )
+  pub mended-word : {a : ReadAnswer} {after : List ℕ} → stuck ≡ false → FromAccepted s (wordFor s mended) counts room before a after
+      → FromReceived s (wordFor s work) room before a after
+  mended-word {a} t read =
+      record {
+        answer-is =
+            read .answer-is
+            ∙ rw (m .word-is, counts-are) (sym (from-mended s (wordFor s work) room (sym (m .stuck-is) ∙ t)));
+        message-is = read .message-is ∙ ap (λ (x : List ℕ). frontAfter (a .number) (messageInAccepted s x) before) (m .word-is);
+      }
 
 -- ---- from the matrix
 
-module _ (p : Params) (l matrix before : List ℕ) where
+module _ (p : Params) (l matrix : List ℕ) (work room : ℕ) (before : List ℕ) (is-legal : isLegal p l (length matrix) work ≡ true) where
   abbrev FromMatrix : ReadAnswer → List ℕ → Type 0
-  FromMatrix a after = Answered (answerFromMatrix p l matrix (length before)) (messageIn p l matrix) before a after
+  FromMatrix a after = Answered (readAnswer p l matrix work room) (messageIn p l matrix) before a after
 
   -- the answer behind the tests 7 and 8
   abbrev onward : ReadAnswer
-  onward = answerFromReceived (sizesFor p l) (receivedWord p l matrix) (length before)
+  onward = answerFromReceived (sizesFor p l) (receivedWord p l matrix) room
+
+  -- the tests 1 to 5 are passed
+  behind : readAnswer p l matrix work room ≡ firstOf refused (badModule p matrix ∷ badStuffing p l matrix ∷ []) onward
+  unfolding readAnswer earlyRows isLegal
+  behind =
+      first-append refused (frontRows p l (length matrix) work) _ onward
+      ∙ first-passed refused (frontRows p l (length matrix) work) _ is-legal
 
   -- 7: a module is N or more
   pub bad-module : {a : ReadAnswer} {bad : ℕ} → bad ≡ firstBadModule (p .colours) matrix → bad < length matrix → a ≡ refused 7 bad
       → FromMatrix a before
-  unfolding answerFromMatrix receivedWord
   bad-module {a} {bad} is h e =
-      refusal-answered (refused 7 bad) (messageIn p l matrix) before (λ z. omega arith) e refl
-      (first-hit (row7 p matrix) (row8 p l matrix ∷ []) onward (lt-ltb (firstBadModule (p .colours) matrix) (length matrix) (omega arith)) ∙ rw is)
+      let holds : badModule p matrix .test ≡ true = lt-ltb (firstBadModule (p .colours) matrix) (length matrix) (omega arith) in
+      refusal (messageIn p l matrix) before (λ z. omega arith) e
+      (behind ∙ first-hit refused (badModule p matrix) (badStuffing p l matrix ∷ []) onward holds ∙ rw is refl)
 
   module _ {bad : ℕ} (is : bad ≡ firstBadModule (p .colours) matrix) (none : length matrix ≤ bad) where
-    passed-7 : row7 p matrix .test ≡ false
-    passed-7 = le-ltb (firstBadModule (p .colours) matrix) (length matrix) (omega arith)
+    passed-7 : readAnswer p l matrix work room ≡ firstOf refused (badStuffing p l matrix ∷ []) onward
+    passed-7 =
+        let fails : badModule p matrix .test ≡ false = le-ltb (firstBadModule (p .colours) matrix) (length matrix) (omega arith) in
+        behind ∙ first-miss refused (badModule p matrix) (badStuffing p l matrix ∷ []) onward fails
 
     -- 8: a stuffing bit is wrong
-    pub bad-stuffing : {a : ReadAnswer} → row8 p l matrix .test ≡ true → a ≡ refused 8 0 → FromMatrix a before
-    unfolding answerFromMatrix receivedWord
+    pub bad-stuffing : {a : ReadAnswer} → badStuffing p l matrix .test ≡ true → a ≡ refused 8 0 → FromMatrix a before
     bad-stuffing t e =
-        refusal-answered (refused 8 0) (messageIn p l matrix) before (λ z. omega arith) e refl
-        (first-miss (row7 p matrix) (row8 p l matrix ∷ []) onward passed-7 ∙ first-hit (row8 p l matrix) [] onward t)
+        refusal (messageIn p l matrix) before (λ z. omega arith) e
+        (passed-7 ∙ first-hit refused (badStuffing p l matrix) [] onward t)
 
     -- neither
-    pub good-matrix : {s : Sizes} {w after : List ℕ} {a : ReadAnswer} → row8 p l matrix .test ≡ false → s ≡ sizesFor p l → w ≡ receivedWord p l matrix
-        → FromReceived s w before a after
+    pub good-matrix : {s : Sizes} {w after : List ℕ} {a : ReadAnswer}
+        → badStuffing p l matrix .test ≡ false
+        → s ≡ sizesFor p l
+        → w ≡ receivedWord p l matrix
+        → FromReceived s w room before a after
         → FromMatrix a after
-    unfolding answerFromMatrix messageIn receivedWord
+    unfolding messageIn
     good-matrix {s} {w} {after} {a} t sizes word read =
-        let moved : FromReceived s (receivedWord p l matrix) before a after = subst (λ (x : List ℕ). FromReceived s x before a after) word read in
-        let given : FromReceived (sizesFor p l) (receivedWord p l matrix) before a after = subst (λ (z : Sizes). FromReceived z (receivedWord p l matrix) before a after) sizes moved in
-        (given .0 ∙ sym (first-miss (row7 p matrix) (row8 p l matrix ∷ []) onward passed-7 ∙ first-miss (row8 p l matrix) [] onward t ∙ first-none onward), given .1)
-
--- a read of legal input
-pub legal-read : (p : Params) (l matrix : List ℕ) (work room : ℕ) → isLegal p l (length matrix) work ≡ true
-    → answerFromMatrix p l matrix room ≡ readAnswer p l matrix work room
-unfolding readAnswer
-legal-read p l matrix work room e =
-    sym (front-passed refused p l (length matrix) work (answerFromMatrix p l matrix room) (legal p l (length matrix) work e))
+        let moved : FromReceived s (receivedWord p l matrix) room before a after =
+        subst (λ (x : List ℕ). FromReceived s x room before a after) word read in
+        let given : FromReceived (sizesFor p l) (receivedWord p l matrix) room before a after =
+        subst (λ (z : Sizes). FromReceived z (receivedWord p l matrix) room before a after) sizes moved in
+        record {
+          answer-is = given .answer-is ∙ sym (passed-7 ∙ first-miss refused (badStuffing p l matrix) [] onward t ∙ first-none refused onward);
+          message-is = given .message-is;
+        }

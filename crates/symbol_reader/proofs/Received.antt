@@ -13,15 +13,14 @@ use Rattle.symbology.specs.Bits.{AllBits}
 use Rattle.symbology.specs.Net.{stuffing}
 use Rattle.symbology.specs.Placement.{sampled}
 use Rattle.symbology.specs.Shuffle.{interleavingSeed}
-use Rattle.symbology.specs.Tests.{sizesFor}
-use Rattle.symbology.specs.Write.{isLegal}
-use Rattle.symbology.specs.Read.{receivedBits, receivedWord, sameBits, wrongStuffing}
-use Rattle.laws.proofs.Tests.{legal}
+use Rattle.symbology.specs.Capacity.{sizesFor}
+use Rattle.symbology.specs.Symbol.{receivedBits, receivedWord, sameBits, wrongStuffing}
+use Rattle.call_laws.proofs.Tests.{Legal}
 use Rattle.laws.proofs.Shuffle.{length-unshuffled}
 use Rattle.laws.proofs.Sizes.{sampled-whole}
-use Rattle.laws.proofs.Mending.{received-bits}
+use Rattle.laws.proofs.Symbols.{received-bits}
 use Rattle.layout.specs.Walk.{SizedSymbol}
-use Rattle.layout.proofs.Legal.{legal-symbol}
+use Rattle.layout.proofs.Legal.{sized-symbol}
 use Rattle.lent.specs.declared.Areas.{Areas}
 use Rattle.lent.specs.Buffer.{part}
 use Rattle.lent.proofs.Buffer.{part-lent, length-lent, givenBack, length-back, front-back, behind-back}
@@ -42,15 +41,15 @@ pub record Sized (p : Params) (l : List ℕ) (modules : ℕ) (work : List ℕ) (
   pub room : s .work ≤ length work
   pub sizes-are : s ≡ sizesFor p l
   pub areas-are : a ≡ areasOf s
-  pub legal-is : isLegal p l modules (length work) ≡ true
+  pub legal-is : Legal p l modules (length work)
 
 pub sized : (p : Params) (l : List ℕ) (modules : ℕ) (work : List ℕ) {s : Sizes} {a : Areas}
-    → isLegal p l modules (length work) ≡ true
+    → Legal p l modules (length work)
     → s ≡ sizesFor p l
     → a ≡ areasOf s
     → Sized p l modules work s a
 sized p l modules work e same areas =
-    let k = legal-sizes p l modules (length work) e same in
+    let k = legal-sizes p l (e .symbol) (e .enough) same in
     record { code = k .0; room = k .1; sizes-are = same; areas-are = areas; legal-is = e }
 
 module _ {p : Params} {l : List ℕ} {modules : ℕ} {work : List ℕ} {s : Sizes} {a : Areas} (k : Sized p l modules work s a) where
@@ -64,7 +63,7 @@ module _ {p : Params} {l : List ℕ} {modules : ℕ} {work : List ℕ} {s : Size
   bits-lent =
       let c : ℕ = s .capacity in
       let many : length (part work (a .word) (a .word + c - a .word)) ≡ c = length-lent work (a .word) c bits-fit in (
-        legal-symbol p l modules (length work) (k .legal-is) (many ∙ ap (λ (z : Sizes). z .capacity) (k .sizes-are)),
+        sized-symbol p l (k .legal-is .symbol) (many ∙ ap (λ (z : Sizes). z .capacity) (k .sizes-are)) (k .legal-is .whole),
         omega (arith, k .code .few),
       )
 
@@ -78,7 +77,7 @@ module _ {p : Params} {l : List ℕ} {modules : ℕ} {work : List ℕ} {s : Size
     many-bits =
         ap length got
         ∙ length-unshuffled 0 interleavingSeed (sampled p l matrix)
-        ∙ sampled-whole p l matrix modules (length work) (legal p l modules (length work) (k .legal-is))
+        ∙ sampled-whole p l matrix (k .legal-is .symbol)
         ∙ sym (ap (λ (z : Sizes). z .capacity) (k .sizes-are))
 
     pub same-room : length after ≡ length work

@@ -8,10 +8,10 @@ use native.Mathlib.Decide.{ℕ-discrete}
 use native.Mathlib.Omega.{arith}
 use lib.ListN.{length, getD}
 use Rattle.symbology.specs.Net.{stuffing}
-use Rattle.symbology.specs.Read.{sameBits}
+use Rattle.symbology.specs.Symbol.{sameBits}
 use Rattle.laws.proofs.Ranges.{by}
 use Rattle.laws.proofs.Net.{StuffedTo, stuffing-at, stuffing-is}
-use Rattle.laws.proofs.Stages.{same-self, same-means}
+use Rattle.laws.proofs.Symbols.{same-self, same-means}
 
 module _ (bits : List ℕ) where
   -- so is bit i

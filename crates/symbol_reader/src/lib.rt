@@ -2,9 +2,11 @@
 // received into the work buffer, the word is mended there, and the net bits are read from it.
 //
 // `jabcode::read` is the way in, and makes the tests before. The stages follow document 01's tests: 7 and
-// 8, then 9, then 10, then 11 to 14, which are `stream_reader::read_net`.
+// 8, then 9, then 10, then 11 to 14, which are `stream_reader::read_net`. The counts ride through them as one
+// value; `room` is the length that a message may have, whatever the buffer that it is stored to.
+use calls::Counts;
+use calls::ReadAnswer;
 use symbology::Params;
-use symbology::ReadAnswer;
 use symbology::Sizes;
 ghost use Prim.Native.Nat.{_≤_};
 ghost use mathlib.Core.Path.{_≡_};
@@ -14,55 +16,49 @@ ghost use Rattle.layout.specs.Walk.{SizedSymbol};
 ghost use Rattle.symbology.specs.Bits.{AllBits};
 ghost use Rattle.symbology.specs.Rule.{lastWord};
 ghost use Rattle.symbology.specs.Net.{stuffing};
-ghost use Rattle.symbology.specs.Write.{isLegal, workAfter};
-ghost use Rattle.symbology.specs.Read.{refused, receivedBits, sameBits, checksFor, answerFromAccepted, answerFromReceived, answerFromMatrix, readAnswer, messageInAccepted, messageIn, messageAfter};
+ghost use Rattle.symbology.specs.Symbol.{receivedBits, sameBits};
+ghost use Rattle.symbology.specs.Code.{checksFor};
+ghost use Rattle.calls.specs.Tests.{isLegal};
+ghost use Rattle.calls.specs.Read.{answerFromAccepted, answerFromReceived, readAnswer, messageInAccepted, messageIn};
+ghost use Rattle.calls.specs.Contracts.{Reads};
 ghost use Rattle.ldpc.specs.Work.{CodeSizes, wordFor, HoldsA};
-
-// A refusal that comes before the mending: its counts are 0.
-pub fn early_refusal(number: u32, place: usize) -> ReadAnswer
-    ensures { λ r. ⌜ r ≡ refused number place ⌝ }
-{
-    ReadAnswer {
-        number,
-        place,
-        length: 0,
-        repairs: 0,
-        unmet: 0,
-    }
-}
+ghost use Rattle.symbol_reader.specs.Stages.{Answered};
 
 // From the accepted word: 10, a spare message column is 1, and what follows. The rows of A are in the
 // buffer.
 fn from_accepted(
     s: Sizes,
     work: &mut [u8],
-    repairs: usize,
-    unmet: usize,
+    c: Counts,
+    room: usize,
     message: &mut [u8],
 ) -> ReadAnswer
     requires { ⌜ CodeSizes s × (s .work ≤ length (now work)) × HoldsA s (now work) ⌝ }
-    ensures { λ r. ⌜ r ≡ answerFromAccepted s (wordFor s (now (work .entry))) repairs unmet (length (now (message .entry))) ⌝ }
-    ensures { λ r. ⌜ now (message .exit) ≡ messageAfter r (messageInAccepted s (wordFor s (now (work .entry)))) (now (message .entry)) ⌝ }
+    ensures { λ r. ⌜ Answered (answerFromAccepted s (wordFor s (now (work .entry))) c room) (messageInAccepted s (wordFor s (now (work .entry)))) (now (message .entry)) r (now (message .exit)) ⌝ }
 {
     if ldpc::read_message(work, s) {
-        return stream_reader::late_refusal(10, repairs, unmet);
+        return calls::counted(c, 10);
     }
     let at = ldpc::areas(s).message;
     let end = at + s.net;
-    stream_reader::read_net(&work[at..end], repairs, unmet, message)
+    let read = stream_reader::read_net(&work[at..end], room, message);
+    calls::from_stream(c, read)
 }
 
 // From the received word: 9, stuck; else the read goes on from the word the rule ends with.
-fn from_received(s: Sizes, work: &mut [u8], message: &mut [u8]) -> ReadAnswer
+fn from_received(s: Sizes, work: &mut [u8], room: usize, message: &mut [u8]) -> ReadAnswer
     requires { ⌜ CodeSizes s × (s .work ≤ length (now work)) × AllBits (wordFor s (now work)) ⌝ }
-    ensures { λ r. ⌜ r ≡ answerFromReceived s (wordFor s (now (work .entry))) (length (now (message .entry))) ⌝ }
-    ensures { λ r. ⌜ now (message .exit) ≡ messageAfter r (messageInAccepted s (lastWord (checksFor s) (wordFor s (now (work .entry))))) (now (message .entry)) ⌝ }
+    ensures { λ r. ⌜ Answered (answerFromReceived s (wordFor s (now (work .entry))) room) (messageInAccepted s (lastWord (checksFor s) (wordFor s (now (work .entry))))) (now (message .entry)) r (now (message .exit)) ⌝ }
 {
     let mended = ldpc::mend(work, s);
+    let c = Counts {
+        repairs: mended.repairs,
+        unmet: mended.unmet,
+    };
     if mended.stuck {
-        return stream_reader::late_refusal(9, mended.repairs, mended.unmet);
+        return calls::counted(c, 9);
     }
-    from_accepted(s, work, mended.repairs, mended.unmet, message)
+    from_accepted(s, work, c, room, message)
 }
 
 // Stores the C bits of a matrix, the mask and then the interleaving undone.
@@ -94,15 +90,15 @@ fn read_uncleared(
     list: &[u16],
     matrix: &[u8],
     work: &mut [u8],
+    room: usize,
     message: &mut [u8],
 ) -> ReadAnswer
     requires { ⌜ isLegal p (now list) (length (now matrix)) (length (now work)) ≡ true ⌝ }
-    ensures { λ r. ⌜ r ≡ answerFromMatrix p (now (list .entry)) (now (matrix .entry)) (length (now (message .entry))) ⌝ }
-    ensures { λ r. ⌜ now (message .exit) ≡ messageAfter r (messageIn p (now (list .entry)) (now (matrix .entry))) (now (message .entry)) ⌝ }
+    ensures { λ r. ⌜ Answered (readAnswer p (now (list .entry)) (now (matrix .entry)) (length (now (work .entry))) room) (messageIn p (now (list .entry)) (now (matrix .entry))) (now (message .entry)) r (now (message .exit)) ⌝ }
 {
     let bad = layout::first_bad_module(p.colours, matrix);
     if bad < matrix.len() {
-        return early_refusal(7, bad);
+        return calls::refused(7, bad);
     }
     let s = capacity::sizes_of(p, list.len() / 3);
     let at = ldpc::areas(s).word;
@@ -110,9 +106,9 @@ fn read_uncleared(
     let end = at + s.capacity;
     receive(p, list, matrix, &mut work[at..end]);
     if is_wrong_stuffing(&work[seam..end]) {
-        return early_refusal(8, 0);
+        return calls::refused(8, 0);
     }
-    from_received(s, work, message)
+    from_received(s, work, room, message)
 }
 
 // A read of legal input. The work buffer is cleared behind it.
@@ -124,11 +120,10 @@ pub fn read_legal(
     message: &mut [u8],
 ) -> ReadAnswer
     requires { ⌜ isLegal p (now list) (length (now matrix)) (length (now work)) ≡ true ⌝ }
-    ensures { λ r. ⌜ r ≡ readAnswer p (now (list .entry)) (now (matrix .entry)) (length (now (work .entry))) (length (now (message .entry))) ⌝ }
-    ensures { λ r. ⌜ now (message .exit) ≡ messageAfter r (messageIn p (now (list .entry)) (now (matrix .entry))) (now (message .entry)) ⌝ }
-    ensures { λ _. ⌜ now (work .exit) ≡ workAfter p (now (list .entry)) (length (now (matrix .entry))) (now (work .entry)) ⌝ }
+    ensures { λ r. ⌜ Reads p (now (list .entry)) (now (matrix .entry)) (now (work .entry)) (now (message .entry)) r (now (work .exit)) (now (message .exit)) ⌝ }
 {
-    let answer = read_uncleared(p, list, matrix, work, message);
+    let room = message.len();
+    let answer = read_uncleared(p, list, matrix, work, room, message);
     lent::clear(work, 0, work.len());
     answer
 }

@@ -13,37 +13,39 @@ use Rattle.symbology.specs.declared.Params.{Params}
 use Rattle.symbology.specs.declared.Sizes.{Sizes}
 use Rattle.symbology.specs.Bits.{AllBits}
 use Rattle.symbology.specs.Shuffle.{shuffled, interleavingSeed}
-use Rattle.symbology.specs.Stream.{byteStream}
 use Rattle.symbology.specs.Net.{withEndMark, exceeds, stuffing}
 use Rattle.symbology.specs.Placement.{filled}
-use Rattle.symbology.specs.Tests.{sizesFor}
-use Rattle.symbology.specs.Write.{codewordFor, placedBits, writtenMatrix, answer, writeAnswer, matrixAfterWrite, isLegal}
-use Rattle.laws.proofs.ByteMode.{stream-bits}
+use Rattle.symbology.specs.Capacity.{sizesFor}
+use Rattle.symbology.specs.Code.{codewordFor}
+use Rattle.symbology.specs.Symbol.{placedBits, writtenMatrix}
 use Rattle.laws.proofs.Net.{length-net, net-bits, length-stuffing}
 use Rattle.laws.proofs.Shuffle.{length-shuffled}
-use Rattle.laws.proofs.RoundTrip.{writes-and-reads}
+use Rattle.calls.specs.declared.Answer.{Answer}
+use Rattle.calls.specs.Answers.{answer}
+use Rattle.calls.specs.Tests.{isLegal}
+use Rattle.call_laws.proofs.RoundTrip.{writes-and-reads}
 use Rattle.lent.specs.declared.Areas.{Areas}
 use Rattle.lent.specs.Buffer.{part}
 use Rattle.lent.proofs.Buffer.{length-part, part-lent, length-lent, part-same, length-put, part-put, changed-put, givenBack, length-back, part-back}
 use Rattle.ldpc.specs.Work.{areasOf, CodeSizes, wordFor, netFor}
 use Rattle.ldpc.specs.Stages.{Encoded}
 use Rattle.ldpc.proofs.Work.{net-inside, bits-inside}
-use Rattle.symbol_writer.specs.Writing.{NetStored, BitsPlaced}
+use Rattle.symbol_writer.specs.Writing.{NetStored, BitsPlaced, MatrixWritten}
 
 -- ---- the stages in the work buffer
 
 module _ {s : Sizes} (before : List ℕ) (k : CodeSizes s) (room : s .work ≤ length before) where
   -- the net bits came back in their area
-  pub net-stored : {a : Areas} (message : List ℕ) {new : List ℕ}
+  pub net-stored : {a : Areas} (stream : List ℕ) {new : List ℕ}
       → a ≡ areasOf s
-      → length (byteStream message) < s .net
-      → new ≡ withEndMark (length (part before (a .message) (a .message + s .net - a .message))) (byteStream message)
-      → NetStored s message before (givenBack (a .message) (s .net) before new)
-  net-stored {a} message {new} e fits is =
+      → length stream < s .net
+      → new ≡ withEndMark (length (part before (a .message) (a .message + s .net - a .message))) stream
+      → NetStored s stream before (givenBack (a .message) (s .net) before new)
+  net-stored {a} stream {new} e fits is =
       let inside : a .message + s .net ≤ length before = net-inside k room e in
-      let net : new ≡ withEndMark (s .net) (byteStream message) =
-      is ∙ ap (λ (m : ℕ). withEndMark m (byteStream message)) (length-lent before (a .message) (s .net) inside) in
-      let long : length new ≡ s .net = ap length net ∙ length-net (s .net) (byteStream message) fits in
+      let net : new ≡ withEndMark (s .net) stream =
+      is ∙ ap (λ (m : ℕ). withEndMark m stream) (length-lent before (a .message) (s .net) inside) in
+      let long : length new ≡ s .net = ap length net ∙ length-net (s .net) stream fits in
       let after : List ℕ = givenBack (a .message) (s .net) before new in
       record {
         long = length-back (a .message) (s .net) before new inside long;
@@ -139,44 +141,44 @@ module _ {s : Sizes} (before : List ℕ) (k : CodeSizes s) (room : s .work ≤ l
 pub net-few : {s : Sizes} → CodeSizes s → s .net ≤ 4096
 net-few k = omega (arith, k .parts, k .inside, k .few)
 
--- the net bits of a message are bits
-pub message-bits : {s : Sizes} {message before after : List ℕ} → NetStored s message before after → AllBits (netFor s after)
-message-bits {s} {message} n = subst⁻¹ AllBits (n .net-is) (net-bits (s .net) (byteStream message) (stream-bits message))
+-- the net bits of a stream of bits are bits
+pub stored-bits : {s : Sizes} {stream before after : List ℕ} → AllBits stream → NetStored s stream before after → AllBits (netFor s after)
+stored-bits {s} {stream} bits n = subst⁻¹ AllBits (n .net-is) (net-bits (s .net) stream bits)
 
--- a matrix filled with the C bits of a message
-pub matrix-stored : (p : Params) (l message : List ℕ) {s : Sizes} {a : Areas} {first second third matrix : List ℕ}
+-- a matrix filled with the C bits of a stream
+pub matrix-stored : (p : Params) (l stream : List ℕ) {s : Sizes} {a : Areas} {first second third matrix : List ℕ}
     → s ≡ sizesFor p l
     → a ≡ areasOf s
-    → NetStored s message first second
+    → NetStored s stream first second
     → BitsPlaced s second third
     → matrix ≡ filled p l (part third (a .word) (a .word + s .capacity - a .word))
-    → matrix ≡ writtenMatrix p l message
+    → matrix ≡ writtenMatrix p l stream
 unfolding writtenMatrix
-matrix-stored p l message {s} {a} {third = third} e h n b is =
+matrix-stored p l stream {s} {a} {third = third} e h n b is =
     is
     ∙ ap (filled p l) (part-lent third (a .word) (s .capacity) ∙ ap (λ (x : Areas). part third (x .word) (s .capacity)) h)
     ∙ ap (filled p l) (b .bits-are ∙ ap (placedBits s) (n .net-is))
-    ∙ ap (λ (z : Sizes). filled p l (placedBits z (withEndMark (z .net) (byteStream message)))) e
+    ∙ ap (λ (z : Sizes). filled p l (placedBits z (withEndMark (z .net) stream))) e
 
 -- ---- test 6
 
-module _ (p : Params) (l message matrix : List ℕ) (room : ℕ) (is-legal : isLegal p l (length matrix) room ≡ true) {s : Sizes} (e : s ≡ sizesFor p l) {b : Bool} (is : b ≡ exceeds (length (byteStream message)) (s .net)) where
+module _ (p : Params) (l stream matrix : List ℕ) (work : ℕ) (is-legal : isLegal p l (length matrix) work ≡ true) {s : Sizes}
+    (e : s ≡ sizesFor p l) {b : Bool} (is : b ≡ exceeds (length stream) (s .net)) where
   -- it holds
-  pub no-room : b ≡ true
-      → (answer 6 0 ≡ writeAnswer p l message (length matrix) room) × (matrix ≡ matrixAfterWrite p l message room matrix)
-  no-room t =
-      let more : sizesFor p l .net < suc (length (byteStream message)) =
-      omega (arith, ltb-true (s .net) (suc (length (byteStream message))) (sym is ∙ t), ap (λ (z : Sizes). z .net) e) in
-      let six = writes-and-reads p l message matrix room is-legal .denied more in
-      (sym (six .0), sym (six .1))
+  pub no-room : {a : Answer} → b ≡ true → a ≡ answer 6 0 → MatrixWritten p l stream matrix work a matrix
+  no-room t six =
+      let more : sizesFor p l .net < suc (length stream) =
+      omega (arith, ltb-true (s .net) (suc (length stream)) (sym is ∙ t), ap (λ (z : Sizes). z .net) e) in
+      let law = writes-and-reads p l stream matrix work is-legal .denied more in
+      record { answer-is = six ∙ sym (law .0); matrix-is = sym (law .1) }
 
   -- it does not: the stream and its end mark fit
-  pub fits : b ≡ false → length (byteStream message) < s .net
-  fits f = ltb-false (s .net) (suc (length (byteStream message))) (sym is ∙ f)
+  pub fits : b ≡ false → length stream < s .net
+  fits f = ltb-false (s .net) (suc (length stream)) (sym is ∙ f)
 
   -- and the matrix is stored
-  pub room-enough : {after : List ℕ} → b ≡ false → after ≡ writtenMatrix p l message
-      → (answer 0 0 ≡ writeAnswer p l message (length matrix) room) × (after ≡ matrixAfterWrite p l message room matrix)
-  room-enough f w =
-      let zero-is = writes-and-reads p l message matrix room is-legal .written (omega (arith, fits f, ap (λ (z : Sizes). z .net) e)) in
-      (sym (zero-is .0), w ∙ sym (zero-is .1))
+  pub room-enough : {a : Answer} {matrix′ : List ℕ} → b ≡ false → matrix′ ≡ writtenMatrix p l stream → a ≡ answer 0 0
+      → MatrixWritten p l stream matrix work a matrix′
+  room-enough f stored zero-is =
+      let law = writes-and-reads p l stream matrix work is-legal .written (omega (arith, fits f, ap (λ (z : Sizes). z .net) e)) in
+      record { answer-is = zero-is ∙ sym (law .0); matrix-is = stored ∙ sym (law .1) }

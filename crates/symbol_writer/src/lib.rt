@@ -2,7 +2,7 @@
 // stuffing bits and the interleaving lie in the work buffer one after the other; the matrix is stored last.
 //
 // `jabcode::write` is the way in, and makes the tests before.
-use symbology::Answer;
+use calls::Answer;
 use symbology::Params;
 use symbology::Sizes;
 ghost use Prim.Native.Nat.{_≤_, _<_};
@@ -10,17 +10,19 @@ ghost use mathlib.Core.Path.{_≡_};
 ghost use mathlib.Core.Bool.{true};
 ghost use lib.ListN.{length};
 ghost use Rattle.symbology.specs.Bits.{AllBits};
-ghost use Rattle.symbology.specs.Stream.{byteStream};
+ghost use Rattle.symbology.specs.Stream.{streamOf};
 ghost use Rattle.symbology.specs.Net.{stuffing};
-ghost use Rattle.symbology.specs.Tests.{sizesFor};
-ghost use Rattle.symbology.specs.Write.{writtenMatrix, writeAnswer, matrixAfterWrite, isLegal, workAfter};
+ghost use Rattle.symbology.specs.Capacity.{sizesFor};
+ghost use Rattle.symbology.specs.Symbol.{writtenMatrix};
+ghost use Rattle.calls.specs.Tests.{isLegal};
+ghost use Rattle.calls.specs.Contracts.{Writes};
 ghost use Rattle.ldpc.specs.Work.{CodeSizes, netFor};
-ghost use Rattle.symbol_writer.specs.Writing.{NetStored, BitsPlaced};
+ghost use Rattle.symbol_writer.specs.Writing.{NetStored, BitsPlaced, MatrixWritten};
 
 // Stores the net bits of a message.
 fn store_net(message: &[u8], work: &mut [u8], s: Sizes)
-    requires { ⌜ CodeSizes s × (s .work ≤ length (now work)) × (length (byteStream (now message)) < s .net) ⌝ }
-    ensures { λ _. ⌜ NetStored s (now (message .entry)) (now (work .entry)) (now (work .exit)) ⌝ }
+    requires { ⌜ CodeSizes s × (s .work ≤ length (now work)) × (length (streamOf (now message)) < s .net) ⌝ }
+    ensures { λ _. ⌜ NetStored s (streamOf (now (message .entry))) (now (work .entry)) (now (work .exit)) ⌝ }
 {
     let at = ldpc::areas(s).message;
     let end = at + s.net;
@@ -60,8 +62,8 @@ fn store_matrix(
     work: &mut [u8],
     s: Sizes,
 )
-    requires { ⌜ (isLegal p (now list) (length (now matrix)) (length (now work)) ≡ true) × (s ≡ sizesFor p (now list)) × (length (byteStream (now message)) < s .net) ⌝ }
-    ensures { λ _. ⌜ now (matrix .exit) ≡ writtenMatrix p (now (list .entry)) (now (message .entry)) ⌝ }
+    requires { ⌜ (isLegal p (now list) (length (now matrix)) (length (now work)) ≡ true) × (s ≡ sizesFor p (now list)) × (length (streamOf (now message)) < s .net) ⌝ }
+    ensures { λ _. ⌜ now (matrix .exit) ≡ writtenMatrix p (now (list .entry)) (streamOf (now (message .entry))) ⌝ }
 {
     store_net(message, work, s);
     place_bits(work, s);
@@ -79,21 +81,14 @@ fn write_uncleared(
     work: &mut [u8],
 ) -> Answer
     requires { ⌜ isLegal p (now list) (length (now matrix)) (length (now work)) ≡ true ⌝ }
-    ensures { λ r. ⌜ r ≡ writeAnswer p (now (list .entry)) (now (message .entry)) (length (now (matrix .entry))) (length (now (work .entry))) ⌝ }
-    ensures { λ _. ⌜ now (matrix .exit) ≡ matrixAfterWrite p (now (list .entry)) (now (message .entry)) (length (now (work .entry))) (now (matrix .entry)) ⌝ }
+    ensures { λ r. ⌜ MatrixWritten p (now (list .entry)) (streamOf (now (message .entry))) (now (matrix .entry)) (length (now (work .entry))) r (now (matrix .exit)) ⌝ }
 {
     let s = capacity::sizes_of(p, list.len() / 3);
     if stream_writer::exceeds_net(message, s.net) {
-        return Answer {
-            number: 6,
-            place: 0,
-        };
+        return calls::answered(6, 0);
     }
     store_matrix(p, list, message, matrix, work, s);
-    Answer {
-        number: 0,
-        place: 0,
-    }
+    calls::answered(0, 0)
 }
 
 // A write of legal input. The work buffer is cleared behind it.
@@ -105,9 +100,7 @@ pub fn write_legal(
     work: &mut [u8],
 ) -> Answer
     requires { ⌜ isLegal p (now list) (length (now matrix)) (length (now work)) ≡ true ⌝ }
-    ensures { λ r. ⌜ r ≡ writeAnswer p (now (list .entry)) (now (message .entry)) (length (now (matrix .entry))) (length (now (work .entry))) ⌝ }
-    ensures { λ _. ⌜ now (matrix .exit) ≡ matrixAfterWrite p (now (list .entry)) (now (message .entry)) (length (now (work .entry))) (now (matrix .entry)) ⌝ }
-    ensures { λ _. ⌜ now (work .exit) ≡ workAfter p (now (list .entry)) (length (now (matrix .entry))) (now (work .entry)) ⌝ }
+    ensures { λ r. ⌜ Writes p (now (list .entry)) (streamOf (now (message .entry))) (now (matrix .entry)) (now (work .entry)) r (now (matrix .exit)) (now (work .exit)) ⌝ }
 {
     let answer = write_uncleared(p, list, message, matrix, work);
     lent::clear(work, 0, work.len());

@@ -3,5 +3,4 @@ pub mod Ranges
 pub mod Parameters
 pub mod Sides
 pub mod Published
-pub mod Points
 pub mod Examples

@@ -2,6 +2,7 @@
 -- Assumes nothing.
 use Prim.Native.Nat.{ℕ, _+_, _-_, _*_, _/_, _^_}
 use mathlib.Core.Bool.{cond}
+use mathlib.Core.List.{List}
 use lib.Dec.{leb, eqb}
 use Rattle.symbology.specs.declared.Params.{Params}
 use Rattle.symbology.specs.declared.Modules.{Modules}
@@ -9,6 +10,7 @@ use Rattle.symbology.specs.declared.Bits.{Bits}
 use Rattle.symbology.specs.declared.Sizes.{Sizes}
 use Rattle.symbology.specs.Ranges.{lowest}
 use Rattle.symbology.specs.Sides.{sideSize, innerPatterns, columns, rows}
+use Rattle.symbology.specs.Reserved.{entries}
 
 -- 000, 4.1 f: a module represents log2 N bits, 2 of 4 colours and 3 of 8
 unfoldable pub bitsPerModule : ℕ → ℕ
@@ -70,3 +72,7 @@ sizesOf p listed =
       net = netBits c (p .wc) (p .wr);
       work = workBytes (checkCount c (p .wc) (p .wr)) (grossBits c (p .wr)) c;
     }
+
+-- the sizes of a symbol with this reserved list
+abbrev pub sizesFor : Params → List ℕ → Sizes
+sizesFor p l = sizesOf p (entries l)

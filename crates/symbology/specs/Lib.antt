@@ -12,14 +12,12 @@ pub mod Place
 pub mod Shuffle
 pub mod Matrix
 pub mod Rule
+pub mod Steps
 pub mod Codeword
+pub mod Code
 pub mod Characters
 pub mod Modes
 pub mod Stream
 pub mod Net
 pub mod Placement
-pub mod Tests
-pub mod SizesAnswer
-pub mod Write
-pub mod Read
-pub mod Mending
+pub mod Symbol

@@ -1,6 +1,7 @@
--- 002, 4.3: a stream of bits read, code by code from uppercase mode, and the byte-mode stream of a message.
+-- 002, 4.3: a stream of bits read, code by code from uppercase mode; the byte-mode stream of a message; and the stream that is chosen.
 -- Assumes nothing.
 use Prim.Native.Nat.{ℕ, zero, suc, _-_}
+use mathlib.Core.Path.{_≡_}
 use mathlib.Core.Bool.{cond}
 use mathlib.Core.List.{List, [], _∷_, _++_}
 use lib.ListN.{length, take, drop}
@@ -11,7 +12,7 @@ use Rattle.symbology.specs.declared.Expected.{Expected}
 use Rattle.symbology.specs.declared.Expected.the-variants.{Latched}
 use Rattle.symbology.specs.declared.ModeAnswer.{ModeAnswer}
 use Rattle.symbology.specs.declared.ModeAnswer.the-variants.{Next, EndOfMessage, Undefined, Eci, Fnc1}
-use Rattle.symbology.specs.Bits.{value, bits}
+use Rattle.symbology.specs.Bits.{AllBits, value, bits}
 use Rattle.symbology.specs.Modes.{codeWidth, switchOf, bytesOf, modeNumber, endNumber}
 
 -- ---- reading
@@ -80,3 +81,14 @@ byteRuns (suc n) (b ∷ bs) = byteRun (take longestRun (b ∷ bs)) ++ byteRuns n
 -- the byte-mode stream of a message; an empty message has an empty stream
 unfoldable pub byteStream : List ℕ → List ℕ
 byteStream m = byteRuns (length m) m
+
+-- ---- the stream of a message
+
+-- the stream that a message is written as: byte mode is chosen here
+unfoldable pub streamOf : List ℕ → List ℕ
+streamOf message = byteStream message
+
+-- a stream of bits that reads as the message
+pub record ReadsAs (stream message : List ℕ) : Type 0 where
+  pub are-bits : AllBits stream
+  pub gives : decode stream ≡ record { number = 0; bytes = message }

@@ -1,6 +1,6 @@
-// The types of the calls, and in specs/ every definition that an answer or a buffer of a call is held
-// to. What lower functions keep or ask for stands in the specs/ of their crates. This crate has no
-// functions: it is what a reader must believe.
+// The types of a symbol, and in specs/ every definition that a symbol is held to: layout, code, streams.
+// The definitions of the calls stand in `calls`, and what lower functions keep or ask for in the specs/ of
+// their crates. This crate has no functions: it is what a reader must believe.
 
 // What a caller chooses for one symbol, in document 01's order. Any number may stand in any field:
 // the calls refuse what is outside document 01's ranges.
@@ -75,34 +75,6 @@ pub enum Cell {
 pub enum ListVerdict {
     Sound,
     Fault(usize),
-}
-
-// The answer of a write, and of the tests 1 to 5: document 01's number and place.
-pub struct Answer {
-    pub number: u32,
-    pub place: usize,
-}
-
-// The answer of `sizes`: document 01's number and place, and what a caller needs to know of a symbol
-// before it is written or read: columns, rows, C, Pn and the bytes of the work buffer.
-pub struct SizesAnswer {
-    pub number: u32,
-    pub place: usize,
-    pub columns: usize,
-    pub rows: usize,
-    pub capacity: usize,
-    pub net: usize,
-    pub work: usize,
-}
-
-// The answer of a read: document 01's number and place, the message's length, the repairs and the
-// number of checks unmet in the received word.
-pub struct ReadAnswer {
-    pub number: u32,
-    pub place: usize,
-    pub length: usize,
-    pub repairs: usize,
-    pub unmet: usize,
 }
 
 // The modes of 002, 4.3, that a reader stays in until the next latch.

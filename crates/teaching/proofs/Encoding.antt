@@ -8,13 +8,16 @@ use native.Mathlib.Omega.{arith}
 use lib.ListN.{length}
 use Rattle.symbology.specs.declared.Params.{Params}
 use Rattle.symbology.specs.declared.Sizes.{Sizes}
-use Rattle.symbology.specs.declared.SizesAnswer.{SizesAnswer}
+use Rattle.calls.specs.declared.SizesAnswer.{SizesAnswer}
 use Rattle.symbology.specs.Bits.{AllBits, bitwiseSum}
 use Rattle.symbology.specs.Parameters.{inRange}
-use Rattle.symbology.specs.Tests.{sizesFor}
-use Rattle.symbology.specs.SizesAnswer.{noSizes, theSizes, sizesAnswer}
-use Rattle.symbology.specs.Write.{codewordFor}
-use Rattle.laws.proofs.Tests.{Legal, sizes-each}
+use Rattle.symbology.specs.Capacity.{sizesFor}
+use Rattle.calls.specs.Answers.{noSizes, theSizes}
+use Rattle.calls.specs.Sizes.{sizesAnswer}
+use Rattle.symbology.specs.Code.{codewordFor}
+use Rattle.laws.proofs.Sizes.{LegalSymbol}
+use Rattle.calls.specs.Tests.{sizeRows}
+use Rattle.call_laws.proofs.Tests.{Each, first-zero, legal-symbol}
 use Rattle.laws.proofs.Teaching.{codeword-of-sum}
 use Rattle.lent.proofs.Buffer.{length-part}
 use Rattle.ldpc.specs.Work.{areasOf, CodeSizes, wordFor, netFor}
@@ -22,19 +25,18 @@ use Rattle.ldpc.specs.Stages.{Encoded}
 use Rattle.ldpc.proofs.Work.{code-sizes, net-inside}
 
 module _ (p : Params) (l : List ℕ) (passed : sizesAnswer p l .number ≡ 0) where
-  -- with buffers of the symbol's sizes the input is legal
-  sized : Legal p l (sizesFor p l .columns * sizesFor p l .rows) (sizesFor p l .work)
-  unfolding sizesAnswer
-  sized =
-      let s : Sizes = sizesFor p l in
-      sizes-each noSizes p l (λ (a : SizesAnswer). a .number ≡ 0 → Legal p l (s .columns * s .rows) (s .work))
-      (theSizes (sizesFor p l)) (λ n low high z. absurd (omega arith)) (λ z. absurd (omega arith)) (λ k z. k) passed
+  legal : LegalSymbol p l
+  unfolding sizesAnswer sizeRows Each
+  legal =
+      let number : SizesAnswer → ℕ = λ a. a .number in
+      legal-symbol p l
+      (first-zero noSizes number (sizeRows p l) (theSizes (sizesFor p l)) (λ z. omega arith, (λ z. omega arith, (λ z. omega arith, tt))) passed .0)
 
   pub range-passed : inRange p ≡ true
-  range-passed = sized .in-range
+  range-passed = legal .in-range
 
   belong : CodeSizes (sizesFor p l)
-  belong = code-sizes p l (sizesFor p l .columns * sizesFor p l .rows) (sizesFor p l .work) sized
+  belong = code-sizes p l legal
 
   net-long : (work : List ℕ) → sizesFor p l .work ≤ length work → length (netFor (sizesFor p l) work) ≡ sizesFor p l .net
   net-long work h = length-part work (areasOf (sizesFor p l) .message) (sizesFor p l .net) (net-inside belong h refl)

@@ -6,7 +6,7 @@ use native.Mathlib.Omega.{arith}
 use lib.ListN.{length-set}
 use borrow.Author.Tests.{le-leb, lt-leb}
 use Rattle.symbology.specs.Ranges.{tally}
-use Rattle.laws.proofs.Gf2.{dot}
+use Rattle.laws.specs.Gf2.{dot}
 use Rattle.dense.specs.Dense.{denseBits}
 use Rattle.dense.proofs.Dense.{row-inside, column-inside, marks-inside}
 use Rattle.elimination.specs.Reduced.{rowOf}

@@ -4,9 +4,9 @@ use mathlib.Core.Path.{_≡_, subst⁻¹}
 use mathlib.Core.List.{List}
 use native.Mathlib.Omega.{arith}
 use Rattle.symbology.specs.declared.Params.{Params}
-use Rattle.symbology.specs.declared.ReadAnswer.{ReadAnswer}
-use Rattle.symbology.specs.Read.{readAnswer}
-use Rattle.laws.proofs.Stages.{read-keeps}
+use Rattle.calls.specs.declared.ReadAnswer.{ReadAnswer}
+use Rattle.calls.specs.Read.{readAnswer}
+use Rattle.call_laws.proofs.Stages.{read-keeps}
 use borrow.Author.Needs.{needs}
 use Rattle.conformance.proofs.read.Statement.{statement}
 use Rattle.conformance.proofs.read.Tie as tie

@@ -3,7 +3,7 @@ use Prim.Native.Nat.{_-_, _≤_}
 use mathlib.Core.Path.{_≡_, refl}
 use native.Mathlib.Omega.{arith}
 use Rattle.symbology.specs.Ranges.{tally}
-use Rattle.laws.proofs.Gf2.{parity}
+use Rattle.laws.specs.Gf2.{parity}
 use Rattle.dense.specs.Dense.{byteBit}
 use Rattle.dense.proofs.Dense.{odd-bit}
 use Rattle.dense.proofs.odd_ones.Statement.{statement}

@@ -4,7 +4,7 @@ use mathlib.Core.Path.{_≡_, refl, ap, _∙_}
 use mathlib.Core.Bool.{xor}
 use native.Mathlib.Omega.{arith}
 use Rattle.symbology.specs.Ranges.{tally}
-use Rattle.laws.proofs.Gf2.{parity, dot}
+use Rattle.laws.specs.Gf2.{parity, dot}
 use Rattle.dense.specs.Dense.{byteBit, denseBits}
 use Rattle.dense.proofs.Dense.{parity-byte}
 use Rattle.dense.proofs.parity.Statement.{statement}

@@ -1,25 +1,29 @@
--- `jabcode::read` meets its contract, demand 3 among its clauses. Assumes nothing.
+-- `jabcode::read` meets its contract, demand 3 among what it promises. Assumes nothing.
 use lib.ListN.{length}
+use Rattle.jabcode.proofs.Calls.{is-legal, read-refused}
 use borrow.Author.Needs.{needs}
-use Rattle.jabcode.proofs.Calls.{is-legal, read-refused, read-passed}
 use Rattle.jabcode.proofs.read.Statement.{statement}
 use Rattle.jabcode.proofs.read.Tie as tie
 
 front-tests-requires : tie.Need-front-tests-requires
 front-tests-requires c κs = search needs
 
-early-refusal-requires : tie.Need-early-refusal-requires
-early-refusal-requires c κs = search needs
+refused-requires : tie.Need-refused-requires
+refused-requires c κs = search needs
 
 returns : tie.Need-returns
 returns c =
-    let a = c .before .before .before .before .before .before .before .before .args in
-    read-refused (a .p) (a .list .now) (a .matrix .now) (a .work .now) (a .message .now) (c .before .before .before .front-tests .ensures) (c .before .if1 .taken) (c .early-refusal .ensures)
+    let tested = c .before .before .before in
+    let a = tested .before .before .before .before .before .args in
+    read-refused (a .p) (a .list .now) (a .matrix .now) (a .work .now) (a .message .now) (tested .front-tests .ensures) (c .before .if1 .taken)
+    (c .refused .ensures)
 
 read-legal-requires : tie.Need-read-legal-requires
 read-legal-requires c κs =
-    let a = c .before .before .before .before .before .before .before .before .before .args in
-    is-legal (a .p) (a .list .now) (a .work .now) (length (a .matrix .now)) (c .before .before .before .before .front-tests .ensures) (c .before .before .if1 .left)
+    let passed = c .before .before in
+    let tested = passed .before .before in
+    let a = tested .before .before .before .before .before .args in
+    is-legal (a .p) (a .list .now) (length (a .matrix .now)) (length (a .work .now)) (tested .front-tests .ensures) (passed .if1 .left)
 
 same-length : tie.Need-same-length
 same-length c = search needs
@@ -28,16 +32,14 @@ same-length-2 : tie.Need-same-length-2
 same-length-2 c = search needs
 
 returns-2 : tie.Need-returns-2
-returns-2 c =
-    let a = c .before .before .before .before .before .before .before .before .before .before .before .before .before .before .args in
-    read-passed (a .p) (a .list .now) (a .matrix .now) (a .work .now) (a .message .now) (c .before .before .before .before .read-legal .ensures)
+returns-2 c = search needs
 
 pub read-spec : {M : Type 1} → statement M
 read-spec =
     tie.close
     (tie.spec
     front-tests-requires
-    early-refusal-requires
+    refused-requires
     returns
     read-legal-requires
     same-length

@@ -1,7 +1,8 @@
 -- `jabcode::write` meets its contract. Assumes nothing.
 use lib.ListN.{length}
-use borrow.Author.Needs.{needs}
+use Rattle.symbology.specs.Stream.{streamOf}
 use Rattle.jabcode.proofs.Calls.{is-legal, write-refused}
+use borrow.Author.Needs.{needs}
 use Rattle.jabcode.proofs.write.Statement.{statement}
 use Rattle.jabcode.proofs.write.Tie as tie
 
@@ -10,13 +11,16 @@ front-tests-requires c κs = search needs
 
 returns : tie.Need-returns
 returns c =
-    let a = c .before .before .before .before .before .before .before .args in
-    write-refused (a .p) (a .list .now) (a .message .now) (a .matrix .now) (a .work .now) (c .before .before .front-tests .ensures) (c .if1 .taken)
+    let tested = c .before .before in
+    let a = tested .before .before .before .before .before .args in
+    write-refused (a .p) (a .list .now) (streamOf (a .message .now)) (a .matrix .now) (a .work .now) (tested .front-tests .ensures) (c .if1 .taken)
 
 write-legal-requires : tie.Need-write-legal-requires
 write-legal-requires c κs =
-    let a = c .before .before .before .before .before .before .before .before .before .args in
-    is-legal (a .p) (a .list .now) (a .work .now) (length (a .matrix .now)) (c .before .before .before .before .front-tests .ensures) (c .before .before .if1 .left)
+    let passed = c .before .before in
+    let tested = passed .before .before in
+    let a = tested .before .before .before .before .before .args in
+    is-legal (a .p) (a .list .now) (length (a .matrix .now)) (length (a .work .now)) (tested .front-tests .ensures) (passed .if1 .left)
 
 same-length : tie.Need-same-length
 same-length c = search needs

@@ -1,15 +1,15 @@
--- `jabcode::write_and_read` meets its contract, demand 2's round trip among its clauses. Assumes nothing.
+-- `jabcode::write_and_read` meets its contract, demand 2's round trip among what it promises. Assumes nothing.
 use native.Mathlib.Omega.{arith}
-use borrow.Author.Needs.{needs}
 use Rattle.jabcode.proofs.RoundTrip.{not-written, then-read}
+use borrow.Author.Needs.{needs}
 use Rattle.jabcode.proofs.write_and_read.Statement.{statement}
 use Rattle.jabcode.proofs.write_and_read.Tie as tie
 
 write-requires : tie.Need-write-requires
 write-requires c κs = search needs
 
-early-refusal-requires : tie.Need-early-refusal-requires
-early-refusal-requires c κs = search needs
+refused-requires : tie.Need-refused-requires
+refused-requires c κs = search needs
 
 same-length : tie.Need-same-length
 same-length c = search needs
@@ -19,8 +19,10 @@ same-length-2 c = search needs
 
 returns : tie.Need-returns
 returns c =
-    let a = c .before .before .before .before .before .before .before .before .before .before .before .before .before .before .before .args in
-    not-written (a .p) (a .list .now) (a .message .now) (a .matrix .now) (a .work .now) (a .back .now) (c .before .before .before .before .before .before .before .write .ensures) (c .before .if1 .taken) (c .early-refusal .ensures)
+    let written = c .before .before .before .before .before .before .before in
+    let a = written .before .before .before .before .before .before .before .before .args in
+    not-written (a .p) (a .list .now) (a .message .now) (a .matrix .now) (a .work .now) (a .back .now) (written .write .ensures) (c .before .if1 .taken)
+    (c .refused .ensures)
 
 read-requires : tie.Need-read-requires
 read-requires c κs = search needs
@@ -36,15 +38,20 @@ same-length-5 c = search needs
 
 returns-2 : tie.Need-returns-2
 returns-2 c =
-    let a = c .before .before .before .before .before .before .before .before .before .before .before .before .before .before .before .before .before .before .before .before .before .before .args in
-    then-read (a .p) (a .list .now) (a .message .now) (a .matrix .now) (a .work .now) (a .back .now) (c .before .before .before .before .before .before .before .before .before .before .before .before .before .before .write .ensures) (λ i. omega (arith, c .before .before .before .before .before .before .before .before .before .before .before .before .before .before .before .before .before .before .before .before .shared-slice-known2 .given i)) (c .before .before .before .before .before .before .before .before .if1 .left) (c .before .before .before .before .read .ensures)
+    let reading = c .before .before .before .before in
+    let done = reading .before .before .before .before in
+    let written = done .before .before .before .before .before .before in
+    let message = written .before .before .before .before .before .before in
+    let a = message .before .before .args in
+    then-read (a .p) (a .list .now) (a .message .now) (a .matrix .now) (a .work .now) (a .back .now) (written .write .ensures)
+    (λ i. omega (arith, message .shared-slice-known2 .given i)) (done .if1 .left) (reading .read .ensures)
 
 pub write-and-read-spec : {M : Type 1} → statement M
 write-and-read-spec =
     tie.close
     (tie.spec
     write-requires
-    early-refusal-requires
+    refused-requires
     same-length
     same-length-2
     returns

@@ -5,9 +5,9 @@ use mathlib.Core.List.{List}
 use native.Mathlib.Omega.{arith}
 use lib.ListN.{length-take}
 use Rattle.symbology.specs.declared.Params.{Params}
-use Rattle.symbology.specs.declared.ReadAnswer.{ReadAnswer}
-use Rattle.symbology.specs.Read.{readAnswer}
-use Rattle.laws.proofs.Stages.{read-keeps}
+use Rattle.calls.specs.declared.ReadAnswer.{ReadAnswer}
+use Rattle.calls.specs.Read.{readAnswer}
+use Rattle.call_laws.proofs.Stages.{read-keeps}
 use borrow.Author.Needs.{needs}
 use Rattle.label_codec.proofs.read_label.Statement.{statement}
 use Rattle.label_codec.proofs.read_label.Tie as tie

@@ -4,9 +4,9 @@ use mathlib.Core.Path.{_≡_, ap}
 use mathlib.Core.List.{List}
 use native.Mathlib.Omega.{arith}
 use lib.ListN.{length-take}
-use Rattle.symbology.specs.declared.ReadAnswer.{ReadAnswer}
-use Rattle.symbology.specs.Read.{answerFromNet}
-use Rattle.laws.proofs.Stages.{net-keeps}
+use Rattle.calls.specs.declared.ReadAnswer.{ReadAnswer}
+use Rattle.calls.specs.Read.{answerFromNet}
+use Rattle.call_laws.proofs.Stages.{net-keeps}
 use borrow.Author.Needs.{needs}
 use Rattle.stream_vectors.proofs.read_line.Statement.{statement}
 use Rattle.stream_vectors.proofs.read_line.Tie as tie

@@ -5,8 +5,8 @@ use native.Mathlib.Omega.{arith}
 use lib.ListN.{length}
 use lib.Dec.{ltb}
 use borrow.Author.Tests.{lt-ltb}
-use Rattle.symbology.specs.Stream.{byteStream}
-use Rattle.stream_writer.proofs.Lengths.{stream-bounds}
+use Rattle.symbology.specs.Stream.{streamOf}
+use Rattle.stream_writer.proofs.Lengths.{chosen-bounds}
 use borrow.Author.Needs.{needs}
 use Rattle.stream_writer.proofs.exceeds_net.Statement.{statement}
 use Rattle.stream_writer.proofs.exceeds_net.Tie as tie
@@ -14,16 +14,16 @@ use Rattle.stream_writer.proofs.exceeds_net.Tie as tie
 returns : tie.Need-returns
 returns c =
     let a = c .before .before .args in
-    sym (lt-ltb (a .net) (suc (length (byteStream (a .message .now)))) (omega (arith, stream-bounds (a .message .now))))
+    sym (lt-ltb (a .net) (suc (length (streamOf (a .message .now)))) (omega (arith, chosen-bounds (a .message .now))))
 
-stream-length-requires : tie.Need-stream-length-requires
-stream-length-requires c κs = search needs
+chosen-length-requires : tie.Need-chosen-length-requires
+chosen-length-requires c κs = search needs
 
 add-result : tie.Need-add-result
-add-result c = omega (arith, stream-bounds (c .before .before .before .args .message .now))
+add-result c = omega (arith, chosen-bounds (c .before .before .before .args .message .now))
 
 returns-2 : tie.Need-returns-2
-returns-2 c = ap (ltb (c .before .before .before .args .net)) (omega (arith, c .stream-length .ensures))
+returns-2 c = ap (ltb (c .before .before .before .args .net)) (omega (arith, c .chosen-length .ensures))
 
 pub exceeds-net-spec : {M : Type 1} → statement M
-exceeds-net-spec = tie.close (tie.spec returns stream-length-requires add-result returns-2)
+exceeds-net-spec = tie.close (tie.spec returns chosen-length-requires add-result returns-2)

@@ -1,22 +1,23 @@
--- `symbol_reader::from_received` meets its contract. Assumes nothing.
-use borrow.Author.Needs.{needs}
+-- `symbol_reader::from_received` meets its contract: test 9, then the word the rule ends with. Assumes nothing.
 use Rattle.symbol_reader.proofs.Reading.{stuck-word, mended-word}
+use borrow.Author.Needs.{needs}
 use Rattle.symbol_reader.proofs.from_received.Statement.{statement}
 use Rattle.symbol_reader.proofs.from_received.Tie as tie
 
 mend-requires : tie.Need-mend-requires
 mend-requires c κs = search needs
 
-late-refusal-requires : tie.Need-late-refusal-requires
-late-refusal-requires c κs = search needs
+counted-requires : tie.Need-counted-requires
+counted-requires c κs = search needs
 
 same-length : tie.Need-same-length
 same-length c = search needs
 
 returns : tie.Need-returns
 returns c =
-    let a = c .before .before .before .before .before .before .before .before .args in
-    stuck-word (c .before .before .before .before .mend .ensures) (a .message .now) (c .before .if1 .taken) (c .late-refusal .ensures)
+    let mended = c .before .before .before .before in
+    let a = mended .before .before .before .before .args in
+    stuck-word (mended .mend .ensures) (a .room) (a .message .now) (c .before .if1 .taken) (c .counted .ensures)
 
 from-accepted-requires : tie.Need-from-accepted-requires
 from-accepted-requires c κs = search needs
@@ -29,16 +30,18 @@ same-length-3 c = search needs
 
 returns-2 : tie.Need-returns-2
 returns-2 c =
-    let a = c .before .before .before .before .before .before .before .before .before .before .before .before .before .before .args in
-    mended-word (c .before .before .before .before .before .before .before .before .before .before .mend .ensures) (a .message .now)
-    (c .before .before .before .before .before .before .before .if1 .left) (c .before .before .before .before .from-accepted .ensures)
+    let onward = c .before .before .before .before in
+    let free = onward .before .before .before in
+    let mended = free .before .before .before in
+    let a = mended .before .before .before .before .args in
+    mended-word (mended .mend .ensures) (a .room) (a .message .now) (free .if1 .left) (onward .from-accepted .ensures)
 
 pub from-received-spec : {M : Type 1} → statement M
 from-received-spec =
     tie.close
     (tie.spec
     mend-requires
-    late-refusal-requires
+    counted-requires
     same-length
     returns
     from-accepted-requires

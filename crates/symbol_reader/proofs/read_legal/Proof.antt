@@ -1,9 +1,10 @@
--- `symbol_reader::read_legal` meets its contract. Assumes nothing.
-use mathlib.Core.Path.{_∙_}
+-- `symbol_reader::read_legal` meets its contract: what is read before the buffer is cleared, and the buffer cleared. Assumes nothing.
+use mathlib.Core.Path.{sym, _∙_}
 use lib.ListN.{length}
+use Rattle.call_laws.proofs.Answers.{work-cleared}
+use Rattle.call_laws.proofs.Mending.{reads-are}
+use Rattle.lent.proofs.Buffer.{cleared-whole}
 use borrow.Author.Needs.{needs}
-use Rattle.lent.proofs.Work.{all-cleared}
-use Rattle.symbol_reader.proofs.Reading.{legal-read}
 use Rattle.symbol_reader.proofs.read_legal.Statement.{statement}
 use Rattle.symbol_reader.proofs.read_legal.Tie as tie
 
@@ -21,10 +22,14 @@ same-length-2 c = search needs
 
 returns : tie.Need-returns
 returns c =
-    let s = c .before .before .before .before .before .before .before .before .before .before .before .before .before .before .before in
-    let w = c .before .before .before .before .before .before .before .before .read-uncleared in
+    let cleared = c .before .before in
+    let read = cleared .before .before .before .before .before .before in
+    let s = read .before .before .before .before .before .before .before in
+    let r = read .read-uncleared in
     let a = s .args in
-    (w .ensures .0 ∙ legal-read (a .p) (a .list .now) (a .matrix .now) (length (a .work .now)) (length (a .message .now)) (s .pre), (w .ensures .1, all-cleared (a .p) (a .list .now) (a .work .now) (length (a .matrix .now)) (s .pre) (w .kept .1 .1 .1 .0) (c .before .before .clear .ensures)))
+    reads-are (a .p) (a .list .now) (a .matrix .now) (a .work .now) (a .message .now) (r .ensures .answer-is) (r .ensures .message-is)
+    (cleared-whole (r .last .1 .1 .1 .0) (cleared .clear .last .0) (r .kept .1 .1 .1 .0) (cleared .clear .ensures)
+    ∙ sym (work-cleared (a .p) (a .list .now) (a .work .now) (length (a .matrix .now)) (s .pre)))
 
 pub read-legal-spec : {M : Type 1} → statement M
 read-legal-spec =

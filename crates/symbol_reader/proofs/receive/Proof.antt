@@ -4,7 +4,7 @@ use mathlib.Core.Path.{ap, _∙_}
 use mathlib.Core.List.{List}
 use borrow.Author.Needs.{needs}
 use Rattle.symbology.specs.Shuffle.{unshuffled, interleavingSeed}
-use Rattle.symbology.specs.Read.{receivedBits}
+use Rattle.symbology.specs.Symbol.{receivedBits}
 use Rattle.symbol_reader.proofs.receive.Statement.{statement}
 use Rattle.symbol_reader.proofs.receive.Tie as tie
 

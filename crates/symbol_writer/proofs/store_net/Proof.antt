@@ -1,6 +1,7 @@
 -- `symbol_writer::store_net` meets its contract. Assumes nothing.
 use native.Mathlib.Omega.{arith}
 use borrow.Author.Needs.{needs}
+use Rattle.symbology.specs.Stream.{streamOf}
 use Rattle.lent.proofs.Buffer.{length-lent}
 use Rattle.ldpc.proofs.Work.{net-inside}
 use Rattle.symbol_writer.proofs.Writing.{net-stored}
@@ -37,7 +38,7 @@ same-length c = search needs
 returns : tie.Need-returns
 returns c =
     let s = c .before .before .before .before .before .before .before .before in
-    net-stored (s .args .work .now) (s .pre .0) (s .pre .1) (s .args .message .now) (c .before .before .before .before .before .areas .ensures) (s .pre .2) (c .before .before .write-net .ensures)
+    net-stored (s .args .work .now) (s .pre .0) (s .pre .1) (streamOf (s .args .message .now)) (c .before .before .before .before .before .areas .ensures) (s .pre .2) (c .before .before .write-net .ensures)
 
 pub store-net-spec : {M : Type 1} → statement M
 store-net-spec =

@@ -1,7 +1,9 @@
--- `symbol_writer::write_legal` meets its contract. Assumes nothing.
+-- `symbol_writer::write_legal` meets its contract: what is written before the buffer is cleared, and the buffer cleared. Assumes nothing.
+use mathlib.Core.Path.{sym, _∙_}
 use lib.ListN.{length}
+use Rattle.call_laws.proofs.Answers.{work-cleared}
+use Rattle.lent.proofs.Buffer.{cleared-whole}
 use borrow.Author.Needs.{needs}
-use Rattle.lent.proofs.Work.{all-cleared}
 use Rattle.symbol_writer.proofs.write_legal.Statement.{statement}
 use Rattle.symbol_writer.proofs.write_legal.Tie as tie
 
@@ -19,9 +21,18 @@ same-length-2 c = search needs
 
 returns : tie.Need-returns
 returns c =
-    let s = c .before .before .before .before .before .before .before .before .before .before .before .before .before .before .before in
-    let w = c .before .before .before .before .before .before .before .before .write-uncleared in
-    (w .ensures .0, (w .ensures .1, all-cleared (s .args .p) (s .args .list .now) (s .args .work .now) (length (s .args .matrix .now)) (s .pre) (w .kept .1 .1 .1 .1 .0) (c .before .before .clear .ensures)))
+    let cleared = c .before .before in
+    let written = cleared .before .before .before .before .before .before in
+    let s = written .before .before .before .before .before .before .before in
+    let w = written .write-uncleared in
+    let a = s .args in
+    record {
+      answer-is = w .ensures .answer-is;
+      matrix-is = w .ensures .matrix-is;
+      work-is =
+          cleared-whole (w .last .1 .1 .1 .1 .0) (cleared .clear .last .0) (w .kept .1 .1 .1 .1 .0) (cleared .clear .ensures)
+          ∙ sym (work-cleared (a .p) (a .list .now) (a .work .now) (length (a .matrix .now)) (s .pre));
+    }
 
 pub write-legal-spec : {M : Type 1} → statement M
 write-legal-spec =

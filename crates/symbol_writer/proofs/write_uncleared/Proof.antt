@@ -1,32 +1,50 @@
--- `symbol_writer::write_uncleared` meets its contract. Assumes nothing.
+-- `symbol_writer::write_uncleared` meets its contract: test 6, and the matrix of a stream that fits. Assumes nothing.
 use native.Mathlib.Omega.{arith}
 use lib.ListN.{length}
-use borrow.Author.Needs.{needs}
-use Rattle.laws.proofs.Tests.{legal}
+use Rattle.symbology.specs.Stream.{streamOf}
+use Rattle.call_laws.proofs.Tests.{Legal, legal}
 use Rattle.ldpc.proofs.Work.{legal-sizes}
 use Rattle.symbol_writer.proofs.Writing.{net-few, no-room, fits, room-enough}
+use borrow.Author.Needs.{needs}
 use Rattle.symbol_writer.proofs.write_uncleared.Statement.{statement}
 use Rattle.symbol_writer.proofs.write_uncleared.Tie as tie
 
+-- parameters, list and buffers are legal
+known : (s : tie.Start) → Legal (s .args .p) (s .args .list .now) (length (s .args .matrix .now)) (length (s .args .work .now))
+known s = legal (s .args .p) (s .args .list .now) (length (s .args .matrix .now)) (length (s .args .work .now)) (s .pre)
+
 sizes-of-requires : tie.Need-sizes-of-requires
-sizes-of-requires c κs =
-    let s = c .before .before .before .before in
-    legal (s .args .p) (s .args .list .now) (length (s .args .matrix .now)) (length (s .args .work .now)) (s .pre) .in-range
+sizes-of-requires c κs = known (c .before .before .before .before) .symbol .in-range
 
 exceeds-net-requires : tie.Need-exceeds-net-requires
 exceeds-net-requires c κs =
     let s = c .before .before .before .before .before in
-    omega (arith, net-few (legal-sizes (s .args .p) (s .args .list .now) (length (s .args .matrix .now)) (length (s .args .work .now)) (s .pre) (c .sizes-of .ensures) .0))
+    omega (arith, net-few (legal-sizes (s .args .p) (s .args .list .now) (known s .symbol) (known s .enough) (c .sizes-of .ensures) .0))
+
+answered-requires : tie.Need-answered-requires
+answered-requires c κs = search needs
 
 returns : tie.Need-returns
 returns c =
-    let s = c .before .before .before .before .before .before .before in
-    no-room (s .args .p) (s .args .list .now) (s .args .message .now) (s .args .matrix .now) (length (s .args .work .now)) (s .pre) (c .before .before .sizes-of .ensures) (c .before .exceeds-net .ensures) (c .if1 .taken)
+    let told = c .before .before in
+    let s = told .before .before .before .before .before .before in
+    no-room (s .args .p) (s .args .list .now) (streamOf (s .args .message .now)) (s .args .matrix .now) (length (s .args .work .now)) (s .pre)
+    (told .before .sizes-of .ensures) (told .exceeds-net .ensures) (c .before .if1 .taken) (c .answered .ensures)
 
 store-matrix-requires : tie.Need-store-matrix-requires
 store-matrix-requires c κs =
-    let s = c .before .before .before .before .before .before .before .before .before in
-    (s .pre, c .before .before .before .before .sizes-of .ensures, fits (s .args .p) (s .args .list .now) (s .args .message .now) (s .args .matrix .now) (length (s .args .work .now)) (s .pre) (c .before .before .before .before .sizes-of .ensures) (c .before .before .before .exceeds-net .ensures) (c .before .before .if1 .left))
+    let told = c .before .before .before in
+    let s = told .before .before .before .before .before .before in
+    let sizes = told .before .sizes-of .ensures in
+    (
+      s .pre,
+      sizes,
+      fits (s .args .p) (s .args .list .now) (streamOf (s .args .message .now)) (s .args .matrix .now) (length (s .args .work .now)) (s .pre)
+          sizes (told .exceeds-net .ensures) (c .before .before .if1 .left),
+    )
+
+answered-requires-2 : tie.Need-answered-requires-2
+answered-requires-2 c κs = search needs
 
 same-length : tie.Need-same-length
 same-length c = search needs
@@ -36,8 +54,12 @@ same-length-2 c = search needs
 
 returns-2 : tie.Need-returns-2
 returns-2 c =
-    let s = c .before .before .before .before .before .before .before .before .before .before .before .before .before .before in
-    room-enough (s .args .p) (s .args .list .now) (s .args .message .now) (s .args .matrix .now) (length (s .args .work .now)) (s .pre) (c .before .before .before .before .before .before .before .before .before .sizes-of .ensures) (c .before .before .before .before .before .before .before .before .exceeds-net .ensures) (c .before .before .before .before .before .before .before .if1 .left) (c .before .before .before .before .store-matrix .ensures)
+    let stored = c .before .before .before .before .before in
+    let fitting = stored .before .before .before in
+    let told = fitting .before in
+    let s = told .before .before .before .before .before .before in
+    room-enough (s .args .p) (s .args .list .now) (streamOf (s .args .message .now)) (s .args .matrix .now) (length (s .args .work .now)) (s .pre)
+    (told .before .sizes-of .ensures) (told .exceeds-net .ensures) (fitting .if1 .left) (stored .store-matrix .ensures) (c .answered2 .ensures)
 
 pub write-uncleared-spec : {M : Type 1} → statement M
 write-uncleared-spec =
@@ -45,8 +67,10 @@ write-uncleared-spec =
     (tie.spec
     sizes-of-requires
     exceeds-net-requires
+    answered-requires
     returns
     store-matrix-requires
+    answered-requires-2
     same-length
     same-length-2
     returns-2)

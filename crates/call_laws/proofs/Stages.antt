@@ -1,0 +1,203 @@
+-- What each stage of a read gives: from the net bits, from the accepted word, from the received word, from the matrix.
+-- Assumes nothing.
+use Prim.Native.Nat.{ℕ, _≤_}
+use mathlib.Core.Path.{_≡_, refl, sym, ap, _∙_, subst⁻¹}
+use mathlib.Core.Bool.{true, false, not}
+use mathlib.Core.List.{List, [], _∷_, _++_}
+use native.Mathlib.Omega.{arith}
+use lib.Dec.{ltb}
+use lib.ListN.{length, take, drop, replicate}
+use lib.Seq.{take-at, drop-at}
+use borrow.Author.Tests.{ltb-false, le-ltb}
+use Rattle.symbology.specs.declared.Params.{Params}
+use Rattle.symbology.specs.declared.Sizes.{Sizes}
+use Rattle.symbology.specs.Ranges.{has}
+use Rattle.symbology.specs.Bits.{anyOne}
+use Rattle.symbology.specs.Capacity.{sizesFor}
+use Rattle.symbology.specs.Rule.{lastWord, stuck}
+use Rattle.symbology.specs.Code.{checksFor, messageBitsFor}
+use Rattle.symbology.specs.Stream.{Decoded, decode, ReadsAs}
+use Rattle.symbology.specs.Net.{withEndMark, streamIn}
+use Rattle.symbology.specs.Symbol.{receivedWord}
+use Rattle.symbology.proofs.Ranges.{clash}
+use Rattle.laws.proofs.Ranges.{by}
+use Rattle.laws.proofs.Net.{net-back, net-some, any-zeros}
+use Rattle.calls.specs.declared.Counts.{Counts}
+use Rattle.calls.specs.declared.ReadAnswer.{ReadAnswer}
+use Rattle.calls.specs.Answers.{counted, refused, done, fromStream, streamRefused, streamDone}
+use Rattle.calls.specs.Tests.{Row, firstOf, passes, spareOne, stuckWord, sizeRows, frontRows, earlyRows, streamRows, acceptedRows, isLegal, reachesChecks}
+use Rattle.calls.specs.Read.{messageInNet, messageInAccepted, streamAnswer, answerFromAccepted, countsOf, answerFromReceived, readAnswer}
+use Rattle.call_laws.proofs.Tests.{Each, each-map, each-listed, numbersOf, pass-fails, pass-front, pass-behind, first-hit, first-miss, first-none, first-passed, first-keeps, first-map, Legal, legal}
+
+-- ---- from the net bits
+
+-- what a stream gives a read is the answer of its table
+pub stream-table : (net : List ℕ) (c : Counts) (room : ℕ)
+    → fromStream c (streamAnswer net room) ≡ firstOf (counted c) (streamRows net room) (done c (length (messageInNet net)))
+unfolding streamAnswer firstOf streamRows
+stream-table net c room = first-map streamRefused (fromStream c) (streamRows net room) (streamDone (length (messageInNet net)))
+
+-- a message that is given fits
+pub stream-fits : (net : List ℕ) (room : ℕ) → passes (streamRows net room) ≡ true → length (messageInNet net) ≤ room
+unfolding streamRows Each
+stream-fits net room e = ltb-false room (length (messageInNet net)) (pass-fails (streamRows net room) e .1 .1 .1 .0)
+
+module _ {stream message : List ℕ} (k : ReadsAs stream message) (n : ℕ) where
+  abbrev net : List ℕ
+  net = withEndMark n stream
+
+  read-back : decode (streamIn net) ≡ record { number = 0; bytes = message }
+  read-back = ap decode (net-back n stream) ∙ k .gives
+
+  -- net bits that hold a message's stream give the message
+  pub net-message : messageInNet net ≡ message
+  net-message = ap (λ (d : Decoded). d .bytes) read-back
+
+  -- and pass its tests, where there is room
+  pub net-passes : (room : ℕ) → length message ≤ room → passes (streamRows net room) ≡ true
+  unfolding streamRows passes
+  net-passes room fits = rw (net-some n stream, read-back, le-ltb room (length message) fits) refl
+
+-- ---- from the accepted word
+
+-- 10 is passed: the answer is that of the net bits
+pub accepted-stream : (s : Sizes) (w : List ℕ) (c : Counts) (room : ℕ)
+    → anyOne (drop (s .net) (messageBitsFor s w)) ≡ false
+    → answerFromAccepted s w c room ≡ fromStream c (streamAnswer (take (s .net) (messageBitsFor s w)) room)
+unfolding answerFromAccepted acceptedRows messageInAccepted
+accepted-stream s w c room none =
+    let net : List ℕ = take (s .net) (messageBitsFor s w) in
+    first-miss (counted c) (spareOne s w) (streamRows net room) (done c (length (messageInNet net))) none ∙ sym (stream-table net c room)
+
+-- 10 is given
+pub accepted-spare : (s : Sizes) (w : List ℕ) (c : Counts) (room : ℕ)
+    → anyOne (drop (s .net) (messageBitsFor s w)) ≡ true
+    → answerFromAccepted s w c room ≡ counted c 10 0
+unfolding answerFromAccepted acceptedRows
+accepted-spare s w c room some = first-hit (counted c) (spareOne s w) _ (done c (length (messageInAccepted s w))) some
+
+-- a word whose message columns hold a message's net bits, and 0 in the spare ones
+module _ (s : Sizes) (w : List ℕ) {stream message : List ℕ} (k : ReadsAs stream message) (spare : ℕ)
+    (long : length (withEndMark (s .net) stream) ≡ s .net)
+    (holds : messageBitsFor s w ≡ withEndMark (s .net) stream ++ replicate spare 0) where
+  front : take (s .net) (messageBitsFor s w) ≡ withEndMark (s .net) stream
+  front = ap (take (s .net)) holds ∙ take-at (withEndMark (s .net) stream) (replicate spare 0) (s .net) long
+
+  behind : drop (s .net) (messageBitsFor s w) ≡ replicate spare 0
+  behind = ap (drop (s .net)) holds ∙ drop-at (withEndMark (s .net) stream) (replicate spare 0) (s .net) long
+
+  -- gives the message
+  pub accepted-message : messageInAccepted s w ≡ message
+  unfolding messageInAccepted
+  accepted-message = ap messageInNet front ∙ net-message k (s .net)
+
+  -- and the answer 0, where there is room
+  pub accepted-done : (c : Counts) (room : ℕ) → length message ≤ room → answerFromAccepted s w c room ≡ done c (length message)
+  unfolding answerFromAccepted acceptedRows passes
+  accepted-done c room fits =
+      let d : ReadAnswer = done c (length (messageInAccepted s w)) in
+      first-passed (counted c) (acceptedRows s w room) d passed ∙ ap (λ (m : List ℕ). done c (length m)) accepted-message
+    where
+      passed : passes (spareOne s w ∷ streamRows (take (s .net) (messageBitsFor s w)) room) ≡ true
+      passed = rw (front, behind, any-zeros spare) (net-passes k (s .net) room fits)
+
+-- What each row's answer has, and 0 where the message fits, the answer has.
+pub accepted-keeps : (Q : ReadAnswer → Type 0) (s : Sizes) (w : List ℕ) (c : Counts) (room : ℕ)
+    → Each (λ r. r .test ≡ true → Q (counted c (r .number) (r .place))) (acceptedRows s w room)
+    → (length (messageInAccepted s w) ≤ room → Q (done c (length (messageInAccepted s w))))
+    → Q (answerFromAccepted s w c room)
+unfolding answerFromAccepted acceptedRows messageInAccepted passes
+accepted-keeps Q s w c room each last =
+    first-keeps (counted c) Q (acceptedRows s w room) (done c (length (messageInAccepted s w))) each (λ e. last (fits e))
+  where
+    fits : passes (spareOne s w ∷ streamRows (take (s .net) (messageBitsFor s w)) room) ≡ true → length (messageInAccepted s w) ≤ room
+    fits e = stream-fits (take (s .net) (messageBitsFor s w)) room (pass-behind (spareOne s w ∷ []) (streamRows (take (s .net) (messageBitsFor s w)) room) e)
+
+-- ---- from the received word
+
+module _ (s : Sizes) (w : List ℕ) (room : ℕ) where
+  -- the word that the rule ends with
+  abbrev last : List ℕ
+  last = lastWord (checksFor s) w
+
+  -- the rule ends with a check unmet
+  pub from-stuck : stuck (checksFor s) w ≡ true → answerFromReceived s w room ≡ counted (countsOf s w) 9 0
+  unfolding answerFromReceived
+  from-stuck e = first-hit (counted (countsOf s w)) (stuckWord s w) [] (answerFromAccepted s last (countsOf s w) room) e
+
+  -- it ends with none
+  pub from-mended : stuck (checksFor s) w ≡ false → answerFromReceived s w room ≡ answerFromAccepted s last (countsOf s w) room
+  unfolding answerFromReceived
+  from-mended e =
+      let onward : ReadAnswer = answerFromAccepted s last (countsOf s w) room in
+      first-miss (counted (countsOf s w)) (stuckWord s w) [] onward e ∙ first-none (counted (countsOf s w)) onward
+
+  -- What each row's answer has, and 0 where the message fits, the answer has.
+  pub received-keeps : (Q : ReadAnswer → Type 0)
+      → Each (λ r. r .test ≡ true → Q (counted (countsOf s w) (r .number) (r .place))) (stuckWord s w ∷ acceptedRows s last room)
+      → (length (messageInAccepted s last) ≤ room → Q (done (countsOf s w) (length (messageInAccepted s last))))
+      → Q (answerFromReceived s w room)
+  unfolding answerFromReceived Each
+  received-keeps Q each fits =
+      first-keeps (counted (countsOf s w)) Q (stuckWord s w ∷ []) (answerFromAccepted s last (countsOf s w) room) (each .0, tt)
+      (λ e. accepted-keeps Q s last (countsOf s w) room (each .1) fits)
+
+-- ---- from the matrix
+
+module _ (p : Params) (l matrix : List ℕ) (work : ℕ) where
+  -- the sizes and the received word
+  abbrev sizes : Sizes
+  sizes = sizesFor p l
+
+  abbrev word : List ℕ
+  word = receivedWord p l matrix
+
+  -- A read that reaches the checks is legal.
+  pub reaches-legal : reachesChecks p l matrix work ≡ true → Legal p l (length matrix) work
+  unfolding reachesChecks earlyRows isLegal
+  reaches-legal e = legal p l (length matrix) work (pass-front (frontRows p l (length matrix) work) _ e)
+
+  -- Its answer is the one from its received word.
+  pub reaches-gives : (room : ℕ) → reachesChecks p l matrix work ≡ true → readAnswer p l matrix work room ≡ answerFromReceived sizes word room
+  unfolding reachesChecks readAnswer
+  reaches-gives room e = first-passed refused (earlyRows p l matrix work) (answerFromReceived sizes word room) e
+
+  module _ (room : ℕ) where
+    -- What each row's answer has, with the counts 0 before the checks and the received word's behind, and 0 where the message fits, every
+    -- answer of a read has. The rows behind the checks are asked of a read that reaches them.
+    pub read-keeps : (Q : ReadAnswer → Type 0)
+        → Each (λ r. r .test ≡ true → Q (refused (r .number) (r .place))) (earlyRows p l matrix work)
+        → (reachesChecks p l matrix work ≡ true
+        → Each (λ r. r .test ≡ true → Q (counted (countsOf sizes word) (r .number) (r .place)))
+        (stuckWord sizes word ∷ acceptedRows sizes (lastWord (checksFor sizes) word) room))
+        → (reachesChecks p l matrix work ≡ true
+        → let m = messageInAccepted sizes (lastWord (checksFor sizes) word) in
+        length m ≤ room
+        → Q (done (countsOf sizes word) (length m)))
+        → Q (readAnswer p l matrix work room)
+    unfolding reachesChecks readAnswer
+    read-keeps Q early late fits =
+        first-keeps refused Q (earlyRows p l matrix work) (answerFromReceived sizes word room) early
+        (λ e. received-keeps sizes word room Q (late e) (fits e))
+
+    -- ---- reaching the checks
+
+    -- A read whose answer is none of the numbers before 9 has reached the checks.
+    pub reaches-when : has (readAnswer p l matrix work room .number) (1 ∷ 2 ∷ 3 ∷ 4 ∷ 5 ∷ 7 ∷ 8 ∷ []) ≡ false
+        → reachesChecks p l matrix work ≡ true
+    unfolding reachesChecks readAnswer sizeRows frontRows earlyRows
+    reaches-when =
+        let rs : List Row = earlyRows p l matrix work in
+        let Q : ReadAnswer → Type 0 = λ a. has (a .number) (numbersOf rs) ≡ false → passes rs ≡ true in
+        first-keeps refused Q rs (answerFromReceived sizes word room)
+        (each-map (λ r. has (r .number) (numbersOf rs) ≡ true) (λ r. r .test ≡ true → Q (refused (r .number) (r .place)))
+        (λ r listed t other. clash listed other) rs (each-listed rs)) (λ e other. e)
+
+    -- The answer of a read that reaches the checks is none of them.
+    pub reaches-only : reachesChecks p l matrix work ≡ true
+        → has (readAnswer p l matrix work room .number) (1 ∷ 2 ∷ 3 ∷ 4 ∷ 5 ∷ 7 ∷ 8 ∷ []) ≡ false
+    unfolding Each streamRows acceptedRows has
+    reaches-only e =
+        let Q : ReadAnswer → Type 0 = λ a. has (a .number) (1 ∷ 2 ∷ 3 ∷ 4 ∷ 5 ∷ 7 ∷ 8 ∷ []) ≡ false in
+        subst⁻¹ Q (reaches-gives room e)
+        (received-keeps sizes word room Q (λ t. refl, (λ t. refl, (λ t. refl, (λ t. refl, (λ t. refl, (λ t. refl, tt)))))) (λ fits. refl))

@@ -1,0 +1,77 @@
+-- The whole read: its answer, and the message buffer at exit (the work buffer is that of a write). It goes in stages, each a function of
+-- what the stage before hands on: the tests up to the checks, the received word, the accepted word, the net bits. `room` is the length
+-- that a message may have.
+-- Assumes nothing.
+use Prim.Native.Nat.{ℕ}
+use mathlib.Core.Bool.{cond}
+use mathlib.Core.List.{List, [], _∷_, _++_}
+use lib.ListN.{length, take}
+use lib.Seq.{sets}
+use lib.Dec.{eqb}
+use Rattle.symbology.specs.declared.Params.{Params}
+use Rattle.symbology.specs.declared.Sizes.{Sizes}
+use Rattle.symbology.specs.Capacity.{sizesFor}
+use Rattle.symbology.specs.Rule.{unmetCount, repairsOf, lastWord}
+use Rattle.symbology.specs.Code.{checksFor, messageBitsFor}
+use Rattle.symbology.specs.Stream.{decode}
+use Rattle.symbology.specs.Net.{streamIn}
+use Rattle.symbology.specs.Symbol.{receivedWord}
+use Rattle.calls.specs.declared.Counts.{Counts}
+use Rattle.calls.specs.declared.StreamAnswer.{StreamAnswer}
+use Rattle.calls.specs.declared.ReadAnswer.{ReadAnswer}
+use Rattle.calls.specs.Answers.{streamRefused, streamDone, counted, refused, done}
+use Rattle.calls.specs.Tests.{Row, firstOf, stuckWord, streamRows, acceptedRows, earlyRows}
+
+-- ---- the message
+
+-- the bytes that net bits give
+abbrev pub messageInNet : List ℕ → List ℕ
+messageInNet net = decode (streamIn net) .bytes
+
+-- the bytes that an accepted word gives
+unfoldable pub messageInAccepted : Sizes → List ℕ → List ℕ
+messageInAccepted s w = messageInNet (take (s .net) (messageBitsFor s w))
+
+-- the message of a sampled matrix: the bytes of the word that the rule ends with. A read that is refused gives none of them.
+unfoldable pub messageIn : Params → List ℕ → List ℕ → List ℕ
+messageIn p l matrix =
+    let s = sizesFor p l in
+    messageInAccepted s (lastWord (checksFor s) (receivedWord p l matrix))
+
+-- A lent buffer after a call that answers this number: on 0 what is stored stands over its front, as far as it reaches, else it is as it
+-- came.
+unfoldable pub frontAfter : ℕ → List ℕ → List ℕ → List ℕ
+frontAfter number stored before = cond (eqb number 0) (sets before 0 stored) before
+
+-- ---- the answer, the stages last to first
+
+-- from the net bits: number and length
+unfoldable pub streamAnswer : List ℕ → ℕ → StreamAnswer
+streamAnswer net room = firstOf streamRefused (streamRows net room) (streamDone (length (messageInNet net)))
+
+-- from the accepted word (document 01's term)
+unfoldable pub answerFromAccepted : Sizes → List ℕ → Counts → ℕ → ReadAnswer
+answerFromAccepted s w c room = firstOf (counted c) (acceptedRows s w room) (done c (length (messageInAccepted s w)))
+
+-- the counts that a received word gives: the repairs, and the checks unmet in it
+abbrev pub countsOf : Sizes → List ℕ → Counts
+countsOf s w =
+    let cs = checksFor s in
+    record { repairs = length (repairsOf cs w); unmet = unmetCount cs w }
+
+-- from the received word: stuck, or the read goes on from the word the rule ends with
+unfoldable pub answerFromReceived : Sizes → List ℕ → ℕ → ReadAnswer
+answerFromReceived s w room =
+    firstOf (counted (countsOf s w)) (stuckWord s w ∷ []) (answerFromAccepted s (lastWord (checksFor s) w) (countsOf s w) room)
+
+-- the answer of a read with a work buffer of this length
+unfoldable pub readAnswer : Params → List ℕ → List ℕ → ℕ → ℕ → ReadAnswer
+readAnswer p l matrix work room =
+    firstOf refused (earlyRows p l matrix work) (answerFromReceived (sizesFor p l) (receivedWord p l matrix) room)
+
+-- All rows of a read. Its number and place are those of this table (the law `read-table`).
+unfoldable pub readRows : Params → List ℕ → List ℕ → ℕ → ℕ → List Row
+readRows p l matrix work room =
+    let s = sizesFor p l in
+    let w = receivedWord p l matrix in
+    earlyRows p l matrix work ++ (stuckWord s w ∷ acceptedRows s (lastWord (checksFor s) w) room)
