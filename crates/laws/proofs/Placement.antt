@@ -273,11 +273,6 @@ module _ (p : Params) (l bs : List ℕ) (are : AllBits bs) (size : length bs ≡
       rw (← (taken-column p l (filled p l bs) c), ← (rank-column p l c))
       (down c h (across c (omega arith)) (rows p) (omega arith))
 
--- Before a module of a filled matrix the first bits are sampled, as many as its rank says.
-pub taken-filled : (p : Params) (l bs : List ℕ) → AllBits bs → length bs ≡ bitsPerModule (p .colours) * dataTotal p l
-    → (c r : ℕ) → c < columns p → r ≤ rows p → taken p l (filled p l bs) c r ≡ take (bitsPerModule (p .colours) * rank p l c r) bs
-taken-filled p l bs are size c r h k = down p l bs are size c h (across p l bs are size c (omega arith)) r k
-
 -- Sampling the matrix that was filled with bits gives the bits back, for every mask.
 pub sampled-filled : (p : Params) (l bs : List ℕ) → AllBits bs → length bs ≡ bitsPerModule (p .colours) * dataTotal p l
     → sampled p l (filled p l bs) ≡ bs
