@@ -1,4 +1,5 @@
 pub mod Groups
 pub mod Bounds
 pub mod Counts
+pub mod Depth
 pub mod Refusals

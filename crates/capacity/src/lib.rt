@@ -2,9 +2,9 @@
 // of the parameters, the number of data modules, the capacity, the sizes of the code, and the tests
 // 1 to 5 of document 01.
 //
-// `sizes` is for callers. It, `in_range` and the two functions of tests answer every input; the others
-// serve the crates above and ask for what these have shown. Only test 2, which the crate `reserved`
-// makes, costs more for a longer list.
+// `sizes` is for callers. It, `in_range`, `bits_per_module` and the two functions of tests answer every
+// input; the others serve the crates above and ask for what these have shown. Only test 2, which the
+// crate `reserved` makes, costs more for a longer list.
 use symbology::Answer;
 use symbology::Bits;
 use symbology::ListVerdict;
@@ -150,21 +150,27 @@ pub fn data_modules(p: Params, listed: usize) -> Modules
 {
     let h = wide(p.horizontal);
     let v = wide(p.vertical);
-    let all = tables::side_size(h) * tables::side_size(v);
+    let all = tables::side_size(p.horizontal) * tables::side_size(p.vertical);
     let inner = tables::inner_patterns(h, v);
     let unpatterned = saturating_sub(all, 7 * inner + corner_modules(p.kind));
     Modules(saturating_sub(unpatterned, listed) as u32)
 }
 
-// The bits that a module represents.
-pub fn bits_per_module(p: Params) -> u32
-    requires { ⌜ inRange p ≡ true ⌝ }
-    ensures { λ r. ⌜ (r ≡ bitsPerModule (p .colours)) × (1 ≤ r) × (r ≤ 3) ⌝ }
+// The bits that a module of one of so many colours represents: as few as tell the colours apart, and
+// at most 8. `told` is the number of colours that `depth` bits tell apart.
+pub fn bits_per_module(colours: u32) -> u32
+    ensures { λ r. ⌜ r ≡ bitsPerModule colours ⌝ }
 {
-    if p.colours == 4 {
-        return 2;
+    let mut depth = 0;
+    let mut told = 1;
+    while depth < 8 {
+        if colours <= told {
+            return depth;
+        }
+        depth += 1;
+        told = 2 * told;
     }
-    3
+    depth
 }
 
 // The one way from a count of modules to a count of bits.
@@ -180,7 +186,7 @@ pub fn sizes_of(p: Params, listed: usize) -> Sizes
     requires { ⌜ inRange p ≡ true ⌝ }
     ensures { λ r. ⌜ r ≡ sizesOf p listed ⌝ }
 {
-    let depth = bits_per_module(p);
+    let depth = bits_per_module(p.colours);
     let bits = as_bits(data_modules(p, listed), depth);
     let c = wide(bits.0);
     let wr = wide(p.wr);
@@ -189,8 +195,8 @@ pub fn sizes_of(p: Params, listed: usize) -> Sizes
     let gross = block * wr;
     let checks = block * wc;
     Sizes {
-        columns: tables::side_size(wide(p.horizontal)),
-        rows: tables::side_size(wide(p.vertical)),
+        columns: tables::side_size(p.horizontal),
+        rows: tables::side_size(p.vertical),
         depth: wide(depth),
         capacity: c,
         wr: wr,

@@ -200,7 +200,7 @@ pub fn side_text(version: usize, out: &mut [u8]) -> usize
     if 32 < version {
         return put_text(out, b"refused 1\n");
     }
-    let second = put_number_line(out, 0, tables::side_size(version));
+    let second = put_number_line(out, 0, tables::side_size(version as u32));
     let third = put_cores_line(out, second, version);
     put_number_line(out, third, tables::inner_patterns(version, version))
 }

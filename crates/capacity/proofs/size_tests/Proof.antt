@@ -22,7 +22,7 @@ returns c =
     c .answered .ensures ∙ sym (out-of-range answer (a .p) (a .list .now) (answer 0 0) range)
 
 judge-list-requires : tie.Need-judge-list-requires
-judge-list-requires c κs = passed (c .before .in-range .ensures) (c .if1 .left)
+judge-list-requires c κs = search needs
 
 enum-known-verdict : tie.Need-enum-known-verdict
 enum-known-verdict c = search needs
