@@ -6,14 +6,14 @@ ghost use lib.Seq.{sets};
 ghost use Rattle.symbology.specs.Bits.{value, bits};
 
 // The number that the n bits from `at` on write. `left` of them are not read yet.
-pub fn bits_value(bits: &[u8], at: usize, n: usize) -> usize
+pub fn bits_value(bits: &[u8], at: usize, n: usize) -> u32
     requires { ⌜ (at + n ≤ length (now bits)) × (n ≤ 16) ⌝ }
     ensures { λ r. ⌜ r ≡ value (take n (drop at (now (bits .entry)))) ⌝ }
 {
-    let mut v = 0usize;
+    let mut v = 0u32;
     let mut left = n;
     while 0 < left {
-        v = 2 * v + (bits[at + (n - left)] % 2) as usize;
+        v = 2 * v + (bits[at + (n - left)] % 2) as u32;
         left -= 1;
     }
     v

@@ -3,26 +3,13 @@
 use Prim.Native.Nat.{ℕ, _+_, _-_, _*_}
 use mathlib.Core.Path.{_≡_, ap, ap₂, _∙_}
 use mathlib.Core.Bool.{cond}
-use mathlib.Core.Logic.{_⊎_, inl, inr}
 use lib.Dec.{eqb}
 use Rattle.symbology.specs.declared.Params.{Params}
 use Rattle.symbology.specs.declared.Modules.{Modules}
 use Rattle.symbology.specs.declared.Bits.{Bits}
 use Rattle.symbology.specs.declared.Sizes.{Sizes}
-use Rattle.symbology.specs.Ranges.{lowest}
 use Rattle.symbology.specs.Sides.{sideSize, innerPatterns, columns, rows}
 use Rattle.symbology.specs.Capacity.{bitsPerModule, patternModules, dataModules, asBits, capacity, blockRows, grossBits, checkCount, netBits, workBytes, sizesOf}
-
--- 4 colours are 2 bits
-pub two-bits : (n : ℕ) → n ≡ 4 → 2 ≡ bitsPerModule n
-unfolding bitsPerModule lowest
-two-bits n e = rw e
-
--- 8 are 3
-pub three-bits : (n : ℕ) → (n ≡ 4 → ⊥) → (n ≡ 4) ⊎ (n ≡ 8) → 3 ≡ bitsPerModule n
-unfolding bitsPerModule lowest
-three-bits n h (inl e) = absurd (h e)
-three-bits n h (inr e) = rw e
 
 -- D, from the modules across and down and those of patterns
 pub modules-are : (kind h v listed across down inner corner n : ℕ)

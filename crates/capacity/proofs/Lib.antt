@@ -1,3 +1,4 @@
 pub mod Groups
 pub mod Bounds
 pub mod Counts
+pub mod Depth

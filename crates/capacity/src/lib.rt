@@ -1,7 +1,8 @@
 // What follows from the parameters and the number of list entries before any matrix is looked at: the
 // ranges of the parameters, the number of data modules, the capacity and the sizes of the code.
 //
-// `in_range` answers every input; the others serve the crates above and ask for what it has shown.
+// `in_range` and `bits_per_module` answer every input; the others serve the crates above and ask for what
+// `in_range` has shown.
 use symbology::Bits;
 use symbology::Modules;
 use symbology::Params;
@@ -141,21 +142,27 @@ pub fn data_modules(p: Params, listed: usize) -> Modules
 {
     let h = wide(p.horizontal);
     let v = wide(p.vertical);
-    let all = tables::side_size(h) * tables::side_size(v);
+    let all = tables::side_size(p.horizontal) * tables::side_size(p.vertical);
     let inner = tables::inner_patterns(h, v);
     let unpatterned = saturating_sub(all, 7 * inner + corner_modules(p.kind));
     Modules(saturating_sub(unpatterned, listed) as u32)
 }
 
-// The bits that a module represents.
-pub fn bits_per_module(p: Params) -> u32
-    requires { ⌜ inRange p ≡ true ⌝ }
-    ensures { λ r. ⌜ (r ≡ bitsPerModule (p .colours)) × (1 ≤ r) × (r ≤ 3) ⌝ }
+// The bits that a module of one of so many colours represents: as few as tell the colours apart, and
+// at most 8. `told` is the number of colours that `depth` bits tell apart.
+pub fn bits_per_module(colours: u32) -> u32
+    ensures { λ r. ⌜ r ≡ bitsPerModule colours ⌝ }
 {
-    if p.colours == 4 {
-        return 2;
+    let mut depth = 0;
+    let mut told = 1;
+    while depth < 8 {
+        if colours <= told {
+            return depth;
+        }
+        depth += 1;
+        told = 2 * told;
     }
-    3
+    depth
 }
 
 // The one way from a count of modules to a count of bits.
@@ -171,7 +178,7 @@ pub fn sizes_of(p: Params, listed: usize) -> Sizes
     requires { ⌜ inRange p ≡ true ⌝ }
     ensures { λ r. ⌜ r ≡ sizesOf p listed ⌝ }
 {
-    let depth = bits_per_module(p);
+    let depth = bits_per_module(p.colours);
     let bits = as_bits(data_modules(p, listed), depth);
     let c = wide(bits.0);
     let wr = wide(p.wr);
@@ -180,8 +187,8 @@ pub fn sizes_of(p: Params, listed: usize) -> Sizes
     let gross = block * wr;
     let checks = block * wc;
     Sizes {
-        columns: tables::side_size(wide(p.horizontal)),
-        rows: tables::side_size(wide(p.vertical)),
+        columns: tables::side_size(p.horizontal),
+        rows: tables::side_size(p.vertical),
         depth: wide(depth),
         capacity: c,
         wr: wr,

@@ -6,7 +6,7 @@ use mathlib.Core.Bool.{Bool, true, cond, _&&_}
 use mathlib.Core.List.{List, [], _∷_, _++_, map}
 use native.Mathlib.Omega.{arith}
 use lib.Dec.{ltb, eqb}
-use lib.ListN.{length, getD, take, drop, length-map, List·getD-append}
+use lib.ListN.{length, getD, take, drop, length-map, List·getD-append, List·getD-eq-default}
 use borrow.Author.Tests.{ne-eqb}
 use Rattle.symbology.specs.Ranges.{tabulate}
 use Rattle.symbology.specs.Characters.{mixedCharacters, utf8, utf8Bytes, characterBytes}
@@ -39,6 +39,11 @@ pub column-front : (cs : List ℕ) (more : List (List ℕ)) → isAscii cs ≡ t
 unfolding characterBytes
 column-front cs more h v l =
     column cs h v ∙ ap utf8Bytes (sym (List·getD-append (map (λ c. c ∷ []) cs) more [] v (omega (arith, length-map cs (λ (c : ℕ). c ∷ [])))))
+
+-- there are 32 mixed characters
+pub past-mixed : (v : ℕ) → 32 ≤ v → [] ≡ characterBytes mixedCharacters v
+unfolding mixedCharacters characterBytes utf8Bytes
+past-mixed v h = sym (ap utf8Bytes (List·getD-eq-default mixedCharacters [] {n = v} h))
 
 -- ---- the mixed characters of several bytes, from value 19 on
 

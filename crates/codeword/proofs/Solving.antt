@@ -26,7 +26,7 @@ use Rattle.lent.proofs.Buffer.{length-part, part-at, part-past, changed-none, c
 use Rattle.dense.specs.Dense.{denseBits, Turned, Packed, PackedIn}
 use Rattle.dense.proofs.Dense.{in-row, row-same}
 use Rattle.elimination.specs.Reduced.{rowOf, isUsed, EliminatedFrom}
-use Rattle.codeword.specs.Columns.{isMessage, RowsEnd, ChecksZero, wordBit, Placed, Solved, WordFilled}
+use Rattle.codeword.specs.Columns.{isMessage, RowsEnd, ChecksZero, wordBit, Placed, MarksKept, Solved, WordFilled}
 use Rattle.codeword.proofs.Columns.{message-is, messages-are, message-kept, own-kept}
 
 -- ---- the columns passed
@@ -38,6 +38,7 @@ rowBits a work c = denseBits work (a .stride) (rowOf a work c)
 -- the check columns up to c are solved, and the word stands as the row behind the rows
 pub record SolvedTo (a : Areas) (before after : List ℕ) (c : ℕ) : Type 0 where
   pub changed : ChangedIn (a .checks * a .stride) (a .word + a .gross) before after
+  pub marks-kept : MarksKept a before after
   pub packed : Packed (a .stride) (a .checks) (a .word) (a .gross) after
   pub kept : (d : ℕ) → d < a .gross → isMessage a before d ≡ true → getD after (a .word + d) 0 ≡ getD before (a .word + d) 0
   pub rest : (d : ℕ) → c ≤ d → getD after (a .word + d) 0 ≡ getD before (a .word + d) 0
@@ -47,6 +48,7 @@ pub solved-start : (a : Areas) (work : List ℕ) → Packed (a .stride) (a .chec
 solved-start a work p =
     record {
       changed = changed-none (a .checks * a .stride) (a .word + a .gross) work;
+      marks-kept = λ i g l. refl;
       packed = p;
       kept = λ d h t. refl;
       rest = λ d h. refl;
@@ -62,6 +64,7 @@ module _ {a : Areas} {before after : List ℕ} {c : ℕ} (laid : Laid a (length 
   solved-message t =
       record {
         changed = s .changed;
+        marks-kept = s .marks-kept;
         packed = s .packed;
         kept = s .kept;
         rest = λ d l. s .rest d (omega arith);
@@ -114,6 +117,7 @@ module _ {a : Areas} {before after : List ℕ} {c : ℕ} (laid : Laid a (length 
     solved-even {v} e odd =
         record {
           changed = s .changed;
+          marks-kept = s .marks-kept;
           packed = s .packed;
           kept = s .kept;
           rest = λ d l. s .rest d (omega arith);
@@ -133,6 +137,8 @@ module _ {a : Areas} {before after : List ℕ} {c : ℕ} (laid : Laid a (length 
     solved-odd {v} {later} e odd t =
         record {
           changed = changed-then stored (t .changed) (omega arith) (omega (arith, laid .rows-end, laid .marks-end));
+          marks-kept = λ i g l.
+              t .changed .behind i g ∙ getD-set-other after (a .word + c) i 1 0 (λ f. omega arith) ∙ s .marks-kept i g l;
           packed = λ d l. t .bits (a .checks) d l ∙ turned d l;
           kept = λ d l m. elsewhere d (λ same. clash (sym (ap (isMessage a before) same) ∙ m) check) ∙ s .kept d l m;
           rest = λ d l. elsewhere d (λ same. omega arith) ∙ s .rest d (omega arith);
@@ -194,7 +200,7 @@ solved-as s e = rw e s
 
 -- all columns are passed
 pub solved-all : {a : Areas} {before after : List ℕ} → SolvedTo a before after (a .gross) → Solved a before after
-solved-all s = record { changed = s .changed; kept = s .kept; solved = s .passed }
+solved-all s = record { changed = s .changed; marks-kept = s .marks-kept; kept = s .kept; solved = s .passed }
 
 -- ---- the codeword
 
@@ -288,5 +294,6 @@ pub word-filled : {a : Areas} {before mid packed after : List ℕ} → Laid a (l
 word-filled laid are-bits p k s =
     record {
       changed = changed-then (placed-packed laid p k) (s .changed) (omega arith) (omega arith);
+      marks-kept = λ i g l. s .marks-kept i g l ∙ k .changed .behind i g ∙ p .changed .front i l;
       word-is = λ m e. solved-codeword laid are-bits p k s m e;
     }

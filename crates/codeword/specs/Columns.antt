@@ -1,6 +1,6 @@
 -- Message and check columns of the work buffer, as the numbers of an elimination tell them apart, and words stored and read by them.
 -- Assumes nothing.
-use Prim.Native.Nat.{ℕ, _+_, _*_, _%_, _<_}
+use Prim.Native.Nat.{ℕ, _+_, _*_, _%_, _≤_, _<_}
 use mathlib.Core.Path.{_≡_}
 use mathlib.Core.Bool.{Bool, true, false, cond}
 use mathlib.Core.List.{List}
@@ -43,20 +43,26 @@ pub record Placed (a : Areas) (before after : List ℕ) : Type 0 where
   pub changed : ChangedIn (a .word) (a .word + a .gross) before after
   pub placed : (j : ℕ) → j < a .gross → getD after (a .word + j) 0 ≡ placedBit a before j
 
+-- what lies between the row behind the rows and the word, the marks, is as before
+abbrev pub MarksKept : Areas → List ℕ → List ℕ → Type 0
+MarksKept a before after = (i : ℕ) → a .checks * a .stride + a .stride ≤ i → i < a .word → getD after i 0 ≡ getD before i 0
+
 -- the check columns are solved: each holds the parity of its row over the columns before it. Only the word and the row behind the rows
--- are changed, and marks, of which nothing is said.
+-- are changed.
 pub record Solved (a : Areas) (before after : List ℕ) : Type 0 where
   pub changed : ChangedIn (a .checks * a .stride) (a .word + a .gross) before after
+  pub marks-kept : MarksKept a before after
   pub kept : (c : ℕ) → c < a .gross → isMessage a before c ≡ true → getD after (a .word + c) 0 ≡ getD before (a .word + c) 0
   pub solved : (c : ℕ)
       → c < a .gross
       → isMessage a before c ≡ false
       → getD after (a .word + c) 0 ≡ tally (dot c (denseBits before (a .stride) (rowOf a before c)) (wordBit a after))
 
--- The word is the codeword of the net bits, for the matrix whose elimination the buffer holds. The row behind the rows and the marks are
--- scratch: nothing is said of them.
+-- The word is the codeword of the net bits, for the matrix whose elimination the buffer holds. Only the word and the row behind the rows
+-- are changed. That row is scratch: nothing is said of it.
 pub record WordFilled (a : Areas) (before after : List ℕ) : Type 0 where
   pub changed : ChangedIn (a .checks * a .stride) (a .word + a .gross) before after
+  pub marks-kept : MarksKept a before after
   pub word-is : (m : BitMatrix)
       → EliminatedFrom a m 0 before
       → part after (a .word) (a .gross) ≡ codeword (a .checks) (a .gross) m (part before (a .message) (a .net))

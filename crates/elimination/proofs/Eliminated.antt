@@ -23,7 +23,7 @@ use Rattle.lent.specs.declared.Areas.{Areas}
 use Rattle.lent.specs.Buffer.{storedNumber, ChangedInBoth, Cleared, Laid}
 use Rattle.lent.proofs.Buffer.{number-same, stored-there, stored-other, changed-none, changed-set, changed-stored, both-none, both-front, both-back}
 use Rattle.dense.proofs.Dense.{marks-inside, rows-front, rows-kept}
-use Rattle.elimination.specs.Reduced.{isUnmarked, isFree, isUsed, rowOf, MarkedBefore, EndsAt, isAdded, ColumnCleared, EliminatedFrom, Eliminated}
+use Rattle.elimination.specs.Reduced.{isUnmarked, isFree, isUsed, rowOf, MarkedBefore, EndsAt, isAdded, ColumnCleared, EliminatedFrom, RowKept, Eliminated}
 use Rattle.elimination.proofs.Cleared.{rows}
 
 -- whether a column is a check column
@@ -36,10 +36,11 @@ InvOf a m work j = Inv (a .checks) (a .gross) m (isCheck a m) (rows a work) (isU
 
 -- ---- the state
 
--- the columns from j on are eliminated, and at most rows, marks, numbers and the row behind the rows are changed
+-- the columns from j on are eliminated, and only rows, marks and numbers are changed
 pub record Eliminating (a : Areas) (j : ℕ) (before after : List ℕ) : Type 0 where
   pub left : j ≤ a .gross
   pub changed : ChangedInBoth (a .marks + a .checks) (a .numbers) (a .numbers + 2 * a .gross) before after
+  row-kept : RowKept a before after
   whole : EliminatedFrom a (rows a before) j after
 
 -- Before the first step no row is marked.
@@ -51,6 +52,7 @@ eliminating-start {a} {before} {after} l c =
       left = omega arith;
       changed = both-front (both-none (a .marks + a .checks) (a .numbers) (a .numbers + 2 * a .gross) before) (c .changed) (omega arith)
           (omega (arith, l .marks-end, l .word-end));
+      row-kept = λ i g h. c .changed .front i h;
       whole = record {
         reduced = start (a .checks) (a .gross) m (isCheck a m) (rows a after) (isUsed a after) (rowOf a after)
             (rows-kept l before after (a .marks) (rows-front l) (c .changed .front))
@@ -63,7 +65,7 @@ eliminating-start {a} {before} {after} l c =
 
 -- after the last step
 pub eliminating-all : {a : Areas} {before after : List ℕ} → Eliminating a 0 before after → Eliminated a before after
-eliminating-all e = record { changed = e .changed; whole = e .whole }
+eliminating-all e = record { changed = e .changed; row-kept = e .row-kept; whole = e .whole }
 
 -- ---- the step of column j
 
@@ -110,6 +112,9 @@ module _ {a : Areas} {j pivot : ℕ} {before work : List ℕ} (l : Laid a (lengt
       (changed-stored (changed-none (a .numbers) (a .numbers + 2 * a .gross) work) (a .numbers + 2 * j) pivot (omega arith) (omega (arith, e .left)))
       (omega arith) (omega arith)
 
+  noted-row-kept : RowKept a before noted
+  noted-row-kept i g h = early i (omega (arith, l .marks-end, l .word-end)) ∙ e .row-kept i g h
+
   noted-inv : InvOf a m noted (suc j)
   noted-inv =
       inv-ext (a .checks) (a .gross) m (isCheck a m) (rows a work) (rows a noted) (isUsed a work) (isUsed a noted) (rowOf a work) (rowOf a noted)
@@ -154,6 +159,7 @@ module _ {a : Areas} {j pivot : ℕ} {before work : List ℕ} (l : Laid a (lengt
         record {
           left = omega (arith, e .left);
           changed = noted-changed;
+          row-kept = noted-row-kept;
           whole = record {
             reduced = clear-step (a .checks) (a .gross) m (isCheck a m) (rows a noted) (isUsed a noted) (rowOf a noted) j
                 noted-inv message-column zeros;
@@ -256,6 +262,8 @@ module _ {a : Areas} {j pivot : ℕ} {before work : List ℕ} (l : Laid a (lengt
                 both-front (both-front noted-changed (d .changed) (omega (arith, rows-front l)) (omega (arith, l .marks-end, l .word-end)))
                 (changed-set (changed-none (a .marks) (a .marks + a .checks) later) (a .marks + pivot) 1 (omega arith) (omega arith))
                 (omega arith) (omega (arith, l .marks-end, l .word-end));
+            row-kept = λ i g h.
+                getD-set-other later (a .marks + pivot) i 1 0 (λ f. omega arith) ∙ d .changed .behind i g ∙ noted-row-kept i g h;
             whole = record {
               reduced = pivot-step (a .checks) (a .gross) m (isCheck a m) (rows a noted) (isUsed a noted) (rowOf a noted)
                   j (omega (arith, e .left)) noted-inv check-column pivot less unused one

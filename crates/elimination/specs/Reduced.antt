@@ -62,10 +62,14 @@ pub record EliminatedFrom (a : Areas) (m : BitMatrix) (j : ℕ) (work : List ℕ
   pub most : (c : ℕ) → j ≤ c → c < a .gross → rowOf a work c ≤ a .checks
   pub marks : (i : ℕ) → i < a .checks → getD work (a .marks + i) 0 ≤ 1
 
--- All columns of the matrix in the buffer are eliminated; at most rows, marks, numbers and the row behind the rows are changed. Of that
--- row nothing is said.
+-- what lies between the rows and the marks, the row behind the rows, is as before
+abbrev pub RowKept : Areas → List ℕ → List ℕ → Type 0
+RowKept a before after = (i : ℕ) → a .checks * a .stride ≤ i → i < a .marks → getD after i 0 ≡ getD before i 0
+
+-- All columns of the matrix in the buffer are eliminated; only rows, marks and numbers are changed.
 pub record Eliminated (a : Areas) (before after : List ℕ) : Type 0 where
   pub changed : ChangedInBoth (a .marks + a .checks) (a .numbers) (a .numbers + 2 * a .gross) before after
+  pub row-kept : RowKept a before after
   pub whole : EliminatedFrom a (denseBits before (a .stride)) 0 after
 
 -- the buffer holds the elimination of some matrix

@@ -8,7 +8,7 @@ use native.Mathlib.Nat.{pow-suc, mul-assoc, mul-le-mul-right}
 use native.Mathlib.Numerals.{add-one}
 use native.Mathlib.Omega.{arith}
 use lib.ListN.{length, getD, take, drop, length-append, replicate, length-take}
-use lib.Seq.{getD-drop, take-suc, take-length}
+use lib.Seq.{getD-drop, take-suc}
 use lib.Pow.{pow-mono}
 use lib.Dec.{eqb}
 use borrow.Author.Tests.{eqb-true, eqb-false}
@@ -55,10 +55,6 @@ bits-take (suc n) bs h l =
     let upper : value (take (suc n) bs) / 2 ≡ value (take n bs) = omega arith in
     let lower : value (take (suc n) bs) % 2 ≡ b = omega arith in
     rw (upper, lower, bits-take n bs h (omega arith)) (sym (take-suc bs n 0 l))
-
--- bits from their number
-pub bits-value : (bs : List ℕ) → AllBits bs → bits (length bs) (value bs) ≡ bs
-bits-value bs h = ap (λ (x : List ℕ). bits (length bs) (value x)) (sym (take-length bs)) ∙ bits-take (length bs) bs h (omega arith) ∙ take-length bs
 
 -- ---- lists of bits
 

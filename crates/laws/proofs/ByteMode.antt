@@ -38,9 +38,13 @@ code-back m e v rest out h =
 bytes-back : (m : Mode) (b : ℕ) (bs rest out : List ℕ) → AllBytes (b ∷ bs)
     → readFrom m (Byte (length bs)) (byteBits (b ∷ bs) ++ rest) out ≡ readFrom m Latched rest (out ++ b ∷ bs)
 unfolding byteBits switchOf bytesOf
-bytes-back m b [] rest out h = rw (append-assoc (bits 8 b) [] rest) (code-back m (Byte 0) b rest out (h 0))
+bytes-back m b [] rest out h =
+    let same : b % 256 ≡ b = omega (arith, h 0) in
+    rw (append-assoc (bits 8 b) [] rest) (rw same at (code-back m (Byte 0) b rest out (h 0)))
 bytes-back m b (c ∷ bs) rest out h =
-    rw (append-assoc (bits 8 b) (byteBits (c ∷ bs)) rest) (code-back m (Byte (suc (length bs))) b (byteBits (c ∷ bs) ++ rest) out (h 0))
+    let same : b % 256 ≡ b = omega (arith, h 0) in
+    rw (append-assoc (bits 8 b) (byteBits (c ∷ bs)) rest)
+    (rw same at (code-back m (Byte (suc (length bs))) b (byteBits (c ∷ bs) ++ rest) out (h 0)))
     ∙ bytes-back m c bs rest (out ++ (b ∷ [])) (λ i. h (suc i)) ∙ rw (append-assoc out (b ∷ []) (c ∷ bs))
 
 -- the count of a run, short and long

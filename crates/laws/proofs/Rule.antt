@@ -19,7 +19,7 @@ use Rattle.symbology.specs.Matrix.{BitMatrix, checkOf, checksOf}
 use Rattle.symbology.specs.Rule.{bitSum, unmet, unmetCount, unmetAt, metAt, isSuspect, suspect, turned, ends}
 use Rattle.symbology.specs.Steps.{LowestSuspect, Ended}
 use Rattle.symbology.proofs.Ranges.{clash}
-use Rattle.laws.proofs.Ranges.{by, or-left, or-right, or-none, lowest-to, lowest-holds, lowest-before, lowest-none, length-tabulate, getD-tabulate, has-append, has-those-past, lowest-is, those-out, those-ascending, those-in, those-under, has-at, Ascending, AllUnder}
+use Rattle.laws.proofs.Ranges.{by, or-left, or-right, or-none, lowest-to, lowest-holds, lowest-before, lowest-none, length-tabulate, getD-tabulate, has-append, has-those-past, lowest-is, those-out, those-ascending, those-in, has-at, Ascending}
 
 -- ---- checks that name no place twice
 
@@ -69,11 +69,6 @@ checks-once k n a i =
 pub check-ascends : (n : ℕ) (a : BitMatrix) (i : ℕ) → Ascending (checkOf n a i)
 unfolding checkOf
 check-ascends n a i = those-ascending n (a i)
-
--- The columns that a check of a matrix names are below its number of columns.
-pub check-under : (n : ℕ) (a : BitMatrix) (i : ℕ) → AllUnder n (checkOf n a i)
-unfolding checkOf
-check-under n a i = those-under n (a i)
 
 -- ---- a turned bit
 

@@ -103,21 +103,6 @@ module _ {A : Type 0} (z : A) where
   unfolding shuffled
   shuffled-perm s xs few = first-perm (length xs) s xs (omega arith) few
 
-  unfirst-perm : (n s : ℕ) (xs : List A) → n ≤ length xs → n ≤ 4096 → Perm xs (unshuffledFirst z n s xs)
-  unfolding unshuffledFirst
-  unfirst-perm zero s xs h few = Perm·refl xs
-  unfirst-perm (suc n) s xs h few =
-      let p : ℕ = drawnPlace (nextState s) (suc n) in
-      let low : p < suc n = drawn-lt s (suc n) (omega arith) few in
-      let ys : List A = unshuffledFirst z n (nextState s) xs in
-      let l : length ys ≡ length xs = length-unfirst n (nextState s) xs in
-      Perm·trans (unfirst-perm n (nextState s) xs (omega arith) (omega arith)) (exchanged-perm p n ys (omega arith) (omega arith))
-
-  -- A list with the permutation undone has the elements of the list, each as often.
-  pub unshuffled-perm : (s : ℕ) (xs : List A) → length xs ≤ 4096 → Perm xs (unshuffled z s xs)
-  unfolding unshuffled
-  unshuffled-perm s xs few = unfirst-perm (length xs) s xs (omega arith) few
-
   -- ---- the inverse
 
   unfirst-first : (n s : ℕ) (xs : List A) → n ≤ length xs → n ≤ 4096 → unshuffledFirst z n s (shuffledFirst z n s xs) ≡ xs

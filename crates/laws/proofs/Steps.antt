@@ -180,12 +180,6 @@ unmet-zero (c ∷ cs) w e (suc i) = unmet-zero cs w (omega arith) i
 
 -- ---- the run without its fuel
 
--- Fuel beyond the unmet count does not matter.
-pub fuel-enough : (cs : List (List ℕ)) (n : ℕ) (w : List ℕ) → AllOnce cs → AllBits w → unmetCount cs w ≤ n → repairs cs n w ≡ repairsOf cs w
-fuel-enough cs n w o b h =
-    let r : Run cs w (repairs cs n w) = runs cs n w o b h in
-    rule-only cs w o b (repairs cs n w) (afterTurns w (repairs cs n w)) (r .0) (r .1) .0
-
 -- Where the test of the end holds, the run turns no bit.
 pub run-ends : (cs : List (List ℕ)) (w : List ℕ) → ends cs w ≡ true → (repairsOf cs w ≡ []) × (lastWord cs w ≡ w)
 unfolding repairsOf lastWord afterTurns

@@ -18,12 +18,13 @@ use Rattle.symbology.specs.Bits.{value, bits}
 use Rattle.symbology.specs.Parameters.{inRange}
 use Rattle.symbology.specs.Reserved.{listVerdict}
 use Rattle.symbology.specs.Sides.{columns, rows}
-use Rattle.symbology.specs.Capacity.{bitsPerModule}
+use Rattle.symbology.specs.Capacity.{bitsPerModule, dataModules}
 use Rattle.symbology.specs.Placement.{isData, cellAt, rank, maskAt, unmaskedIndex, dataModule, onCell, moduleAt, cellBits, bitsAt}
 use Rattle.laws.proofs.Parameters.{InRange, ranges, depth-some}
-use Rattle.laws.proofs.Ranks.{rank-next}
+use Rattle.laws.proofs.Ranks.{rank-next, rank-most}
 use Rattle.laws.proofs.Placement.{bits-inside}
 use Rattle.laws.proofs.Sizes.{data-bits}
+use Rattle.laws.proofs.DataModules.{data-count}
 use Rattle.patterns.specs.declared.SideCores.{SideCores}
 use Rattle.patterns.specs.Cores.{coresFor}
 use Rattle.layout.specs.Walk.{SizedSymbol, AtModule}
@@ -56,10 +57,27 @@ module _ {p : Params} {l : List ℕ} {cores : SideCores} {size modules c r k : �
   mask-legal h = (w .symbol .in-range, omega (arith, sides-most, w .column), omega (arith, sides-most))
 
   -- a data module's bits are some of those there are
-  pub bits-there : (depth : ℕ) → depth ≡ bitsPerModule (p .colours) → r < rows p → cellAt p l c r ≡ Data → depth * k + depth ≤ size
-  bits-there depth e h d =
-      rw (e, w .ranked, w .symbol .all-bits, ← (data-bits p l (w .symbol .in-range) (w .symbol .sound)))
+  pub bits-there : (at depth : ℕ)
+      → at ≡ bitsPerModule (p .colours) * k
+      → depth ≡ bitsPerModule (p .colours)
+      → r < rows p
+      → cellAt p l c r ≡ Data
+      → at + depth ≤ size
+  bits-there at depth place e h d =
+      rw (place, e, w .ranked, w .symbol .all-bits, ← (data-bits p l (w .symbol .in-range) (w .symbol .sound)))
       (bits-inside p l c r (w .column) h (data-cell d))
+
+  -- no more data modules stand before it than a symbol of the largest sides has modules
+  pub few-before : k ≤ 21025
+  unfolding dataModules
+  few-before =
+      omega (
+        arith,
+        w .ranked,
+        rank-most p l c r (w .column) (w .row),
+        data-count p l (w .symbol .in-range) (w .symbol .sound),
+        mul-le-mul (sides-most .0) (sides-most .1),
+      )
 
   -- so there are more bits than data modules before it
   pub rank-small : r < rows p → cellAt p l c r ≡ Data → k < size
@@ -67,7 +85,7 @@ module _ {p : Params} {l : List ℕ} {cores : SideCores} {size modules c r k : �
       let depth : ℕ = bitsPerModule (p .colours) in
       let some : 1 ≤ depth = depth-some (p .colours) (ranges p (w .symbol .in-range) .colours-are) .0 in
       let grows : 1 * suc k ≤ depth * suc k = mul-le-mul {m₁ = suc k} {m₂ = suc k} some (omega arith) in
-      omega (arith, bits-there depth refl h d, mul-suc depth k)
+      omega (arith, bits-there (depth * k) depth refl refl h d, mul-suc depth k)
 
   -- ---- the data modules before the module below
 
@@ -84,14 +102,15 @@ module _ {p : Params} {l : List ℕ} {cores : SideCores} {size modules c r k : �
   fixed-module bs e = rw e
 
   -- the bits at its rank, masked
-  pub data-module : (bs : List ℕ) (depth v mask : ℕ)
+  pub data-module : (bs : List ℕ) (at depth v mask : ℕ)
+      → at ≡ bitsPerModule (p .colours) * k
       → depth ≡ bitsPerModule (p .colours)
-      → v ≡ value (take depth (drop (depth * k) bs))
+      → v ≡ value (take depth (drop at bs))
       → mask ≡ maskAt (p .mask) (p .colours) c r
       → cellAt p l c r ≡ Data
       → bitXor v mask ≡ moduleAt p l bs c r
   unfolding moduleAt onCell unmaskedIndex dataModule
-  data-module bs depth v mask ed ev em e = rw (e, ev, em, ed, w .ranked)
+  data-module bs at depth v mask ea ed ev em e = rw (e, ev, em, ea, ed, w .ranked)
 
   -- ---- the bits of the module
 

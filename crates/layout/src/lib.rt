@@ -9,6 +9,7 @@
 // modules and no list more than 1,024 entries.
 use patterns::SideCores;
 use symbology::Cell;
+use symbology::Modules;
 use symbology::Params;
 use symbology::PatternColour;
 ghost use Prim.Native.Nat.{_+_, _*_, _≤_, _<_};
@@ -44,14 +45,14 @@ fn columns_of(p: Params) -> usize
     requires { ⌜ inRange p ≡ true ⌝ }
     ensures { λ r. ⌜ (r ≡ columns p) × (r ≤ 145) ⌝ }
 {
-    tables::side_size(wide(p.horizontal))
+    tables::side_size(p.horizontal)
 }
 
 fn rows_of(p: Params) -> usize
     requires { ⌜ inRange p ≡ true ⌝ }
     ensures { λ r. ⌜ (r ≡ rows p) × (r ≤ 145) ⌝ }
 {
-    tables::side_size(wide(p.vertical))
+    tables::side_size(p.vertical)
 }
 
 // The index of the module (c, r) in a matrix.
@@ -66,7 +67,17 @@ fn depth_of(p: Params) -> usize
     requires { ⌜ inRange p ≡ true ⌝ }
     ensures { λ r. ⌜ (r ≡ bitsPerModule (p .colours)) × (r ≤ 3) ⌝ }
 {
-    wide(capacity::bits_per_module(p))
+    wide(capacity::bits_per_module(p.colours))
+}
+
+// The bits of the k data modules before a module: the place of its own among them.
+fn bits_before(p: Params, k: usize) -> usize
+    requires { ⌜ (inRange p ≡ true) × (k ≤ 21025) ⌝ }
+    ensures { λ r. ⌜ r ≡ bitsPerModule (p .colours) * k ⌝ }
+{
+    let before = Modules(k as u32);
+    let depth = capacity::bits_per_module(p.colours);
+    wide(capacity::as_bits(before, depth).0)
 }
 
 // ---- what each module holds. Columns c and rows r count from 0.
@@ -130,7 +141,7 @@ fn unmasked_in(bits: &[u8], at: usize, n: usize) -> u8
     requires { ⌜ (at + n ≤ length (now bits)) × (n ≤ 8) ⌝ }
     ensures { λ r. ⌜ r ≡ value (take n (drop at (now (bits .entry)))) ⌝ }
 {
-    narrow(bitfield::bits_value(bits, at, n))
+    bitfield::bits_value(bits, at, n) as u8
 }
 
 // Stores the n lowest bits of a colour index whose mask is undone.
@@ -166,7 +177,7 @@ fn fill_module(
         return k;
     }
     let depth = depth_of(p);
-    matrix[at] = unmasked_in(bits, depth * k, depth) ^ mask;
+    matrix[at] = unmasked_in(bits, bits_before(p, k), depth) ^ mask;
     k + 1
 }
 
@@ -231,7 +242,7 @@ fn sample_module(
         return k;
     }
     let depth = depth_of(p);
-    put_unmasked(out, depth * k, depth, matrix[at] ^ mask_at(p, c, r));
+    put_unmasked(out, bits_before(p, k), depth, matrix[at] ^ mask_at(p, c, r));
     k + 1
 }
 

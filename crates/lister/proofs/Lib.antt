@@ -1,4 +1,5 @@
 pub mod Text
 pub mod Decimal
+pub mod Scanning
 pub mod Lengths
 pub mod Listing

@@ -9,12 +9,12 @@ use native.Mathlib.Decide.{decLt}
 use lib.ListN.{length, getD, drop, length-append}
 use borrow.Author.Tests.{lt-leb, le-leb}
 use Rattle.symbology.specs.Sides.{coresOf, innerPatterns}
-use Rattle.numerals.specs.declared.Numeral.the-variants.{Start}
+use Rattle.lister.specs.declared.Numeral.the-variants.{Start}
 use Rattle.lister.specs.Decimal.{digitsUpTo, decimal}
-use Rattle.numerals.specs.Decimal.{numberIn}
-use Rattle.numerals.specs.Scanning.{scannedAll, scanNumber}
+use Rattle.lister.specs.Numeral.{numberIn}
+use Rattle.lister.specs.Scanning.{scannedAll, scanNumber}
 use Rattle.lister.specs.Listing.{numberLine, coresAfter, coresLine, refusedLine, sideText, listing}
-use Rattle.numerals.proofs.Scanning.{scan-number}
+use Rattle.lister.proofs.Scanning.{scan-number}
 use Rattle.lister.proofs.Lengths.{text-length}
 
 -- a line of core coordinates that begins with 4

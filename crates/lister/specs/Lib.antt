@@ -1,2 +1,4 @@
 pub mod Decimal
+pub mod Numeral
+pub mod Scanning
 pub mod Listing

@@ -5,7 +5,7 @@ use mathlib.Core.Bool.{cond}
 use mathlib.Core.List.{List, [], _∷_, _++_}
 use Rattle.symbology.specs.Ranges.{within}
 use Rattle.symbology.specs.Sides.{sideSize, coresOf, innerPatterns}
-use Rattle.numerals.specs.Decimal.{numberIn}
+use Rattle.lister.specs.Numeral.{numberIn}
 use Rattle.lister.specs.Decimal.{decimal}
 
 -- a line of one number

@@ -1,18 +1,107 @@
 // The side lister's work: a decimal number in, the side of that side-version out as text.
 //
 // `list_side` is the whole of it for an input in memory. A program whose input may be of any length
-// scans it by the crate `numerals` and calls `side_text`.
-use numerals::Numeral;
+// calls `scan` for each piece of it, and at the end `side_text` with what `number_of` gives.
 ghost use Prim.Native.Nat.{_+_, _≤_, _<_};
 ghost use mathlib.Core.Path.{_≡_};
 ghost use lib.ListN.{length, drop};
 ghost use lib.Seq.{sets};
 ghost use Rattle.lister.specs.Decimal.{decimal};
+ghost use Rattle.lister.specs.Numeral.{digitOf};
+ghost use Rattle.lister.specs.Scanning.{grown, scanned, scannedAll, scanNumber};
 ghost use Rattle.lister.specs.Listing.{numberLine, coresAfter, coresLine, sideText, listing};
 ghost use Rattle.pieces.specs.Pieces.{StoredAt};
 ghost use Rattle.symbology.specs.Sides.{coresOf};
 
-// ---- text. Each function stores from `at` on, as far as the buffer reaches, and answers the place
+// ---- the number that a text is, read piece by piece
+
+// What the bytes read so far are: none; digits, which write this number or, where it is above 32,
+// some number above 32; such digits and a newline; or no number, whatever follows.
+pub enum Numeral {
+    Start,
+    Digits(usize),
+    Ended(usize),
+    Broken,
+}
+
+// A number with one more digit. Above 32 it is no side-version any more and stays as it is, so that
+// it fits however many digits follow.
+fn grow(n: usize, digit: usize) -> usize
+    requires { ⌜ digit < 10 ⌝ }
+    ensures { λ r. ⌜ r ≡ grown n digit ⌝ }
+{
+    if 32 < n {
+        return n;
+    }
+    10 * n + digit
+}
+
+// The number that a digit writes, and 10 for any other byte.
+fn digit_of(b: u8) -> usize
+    ensures { λ r. ⌜ (r ≡ digitOf b) × (r ≤ 10) ⌝ }
+{
+    if b < 48 {
+        return 10;
+    }
+    if 57 < b {
+        return 10;
+    }
+    (b - 48) as usize
+}
+
+// The state after one more byte.
+fn scan_byte(state: Numeral, b: u8) -> Numeral
+    ensures { λ r. ⌜ r ≡ scanned state b ⌝ }
+{
+    let digit = digit_of(b);
+    match state {
+        Numeral::Start => {
+            if digit == 10 {
+                return Numeral::Broken;
+            }
+            Numeral::Digits(digit)
+        }
+        Numeral::Digits(n) => {
+            if b == 10 {
+                return Numeral::Ended(n);
+            }
+            if digit == 10 {
+                return Numeral::Broken;
+            }
+            Numeral::Digits(grow(n, digit))
+        }
+        Numeral::Ended(_) => Numeral::Broken,
+        Numeral::Broken => Numeral::Broken,
+    }
+}
+
+// The state after a piece of the input.
+pub fn scan(state: Numeral, bytes: &[u8]) -> Numeral
+    ensures { λ r. ⌜ r ≡ scannedAll state (now (bytes .entry)) ⌝ }
+{
+    let mut s = state;
+    let mut i = 0;
+    while i < bytes.len() {
+        s = scan_byte(s, bytes[i]);
+        i += 1;
+    }
+    s
+}
+
+// The number that an input in this state is: 0 where it is none, and some number above 32, which
+// need not be its own, where it is above 32.
+pub fn number_of(state: Numeral) -> usize
+    ensures { λ r. ⌜ r ≡ scanNumber state ⌝ }
+{
+    match state {
+        Numeral::Start => 0,
+        Numeral::Digits(n) => n,
+        Numeral::Ended(n) => n,
+        Numeral::Broken => 0,
+    }
+}
+
+// ---- the text of a side. Each function stores from `at` on, as far as the buffer reaches, and answers the place
 // behind the text. A buffer that is too short holds the front of it.
 
 fn digit(d: usize) -> u8
@@ -111,7 +200,7 @@ pub fn side_text(version: usize, out: &mut [u8]) -> usize
     if 32 < version {
         return put_text(out, b"refused 1\n");
     }
-    let second = put_number_line(out, 0, tables::side_size(version));
+    let second = put_number_line(out, 0, tables::side_size(version as u32));
     let third = put_cores_line(out, second, version);
     put_number_line(out, third, tables::inner_patterns(version, version))
 }
@@ -121,6 +210,6 @@ pub fn list_side(input: &[u8], out: &mut [u8]) -> usize
     ensures { λ r. ⌜ (r ≡ length (listing (now (input .entry)))) × (r ≤ 48) ⌝ }
     ensures { λ _. ⌜ now (out .exit) ≡ sets (now (out .entry)) 0 (listing (now (input .entry))) ⌝ }
 {
-    let version = numerals::number_of(numerals::scan(Numeral::Start, input));
+    let version = number_of(scan(Numeral::Start, input));
     side_text(version, out)
 }

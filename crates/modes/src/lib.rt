@@ -3,7 +3,7 @@
 use symbology::Expected;
 use symbology::Mode;
 use symbology::ModeAnswer;
-ghost use Prim.Native.Nat.{ℕ, _<_, _^_};
+ghost use Prim.Native.Nat.{ℕ};
 ghost use mathlib.Core.Path.{_≡_};
 ghost use Rattle.symbology.specs.Modes.{modeWidth, codeWidth, switchOf, modeNumber, endNumber};
 ghost use Rattle.symbology.specs.declared.Mode.the-variants.{Upper, Lower, Numeric, Alphanumeric};
@@ -44,7 +44,7 @@ pub fn code_width(m: Mode, e: Expected) -> usize
 // Tables 13 to 16, "Direct", and the value MS: what a code of a latched mode does.
 
 // Table 13.
-fn upper_switch(v: usize) -> ModeAnswer
+fn upper_switch(v: u32) -> ModeAnswer
     ensures { λ r. ⌜ r ≡ switchOf Upper Latched v ⌝ }
 {
     match v {
@@ -59,7 +59,7 @@ fn upper_switch(v: usize) -> ModeAnswer
 }
 
 // Table 14.
-fn lower_switch(v: usize) -> ModeAnswer
+fn lower_switch(v: u32) -> ModeAnswer
     ensures { λ r. ⌜ r ≡ switchOf Lower Latched v ⌝ }
 {
     match v {
@@ -74,7 +74,7 @@ fn lower_switch(v: usize) -> ModeAnswer
 }
 
 // Table 15.
-fn numeric_switch(v: usize) -> ModeAnswer
+fn numeric_switch(v: u32) -> ModeAnswer
     ensures { λ r. ⌜ r ≡ switchOf Numeric Latched v ⌝ }
 {
     match v {
@@ -87,7 +87,7 @@ fn numeric_switch(v: usize) -> ModeAnswer
 }
 
 // Table 16, with the value of the text of 4.3.6.
-fn alphanumeric_switch(v: usize) -> ModeAnswer
+fn alphanumeric_switch(v: u32) -> ModeAnswer
     ensures { λ r. ⌜ r ≡ switchOf Alphanumeric Latched v ⌝ }
 {
     match v {
@@ -97,7 +97,7 @@ fn alphanumeric_switch(v: usize) -> ModeAnswer
     }
 }
 
-fn direct_switch(m: Mode, v: usize) -> ModeAnswer
+fn direct_switch(m: Mode, v: u32) -> ModeAnswer
     ensures { λ r. ⌜ r ≡ switchOf m Latched v ⌝ }
 {
     match m {
@@ -109,7 +109,7 @@ fn direct_switch(m: Mode, v: usize) -> ModeAnswer
 }
 
 // The same tables, "Extended": the first two switches are the same in each, to byte and to mixed mode.
-fn extended_switch(m: Mode, v: usize) -> ModeAnswer
+fn extended_switch(m: Mode, v: u32) -> ModeAnswer
     ensures { λ r. ⌜ r ≡ switchOf m MoreSwitches v ⌝ }
 {
     match v {
@@ -146,7 +146,7 @@ fn fourth_switch(m: Mode) -> ModeAnswer
 }
 
 // After a shift to uppercase mode, for one character.
-fn capital_switch(m: Mode, v: usize) -> ModeAnswer
+fn capital_switch(m: Mode, v: u32) -> ModeAnswer
     ensures { λ r. ⌜ r ≡ switchOf m Capital v ⌝ }
 {
     if v < 27 {
@@ -156,13 +156,13 @@ fn capital_switch(m: Mode, v: usize) -> ModeAnswer
 }
 
 // 4.3.7: the short count of a byte run; 0 says that the long one follows.
-fn short_count(m: Mode, v: usize) -> ModeAnswer
+fn short_count(m: Mode, v: u32) -> ModeAnswer
     ensures { λ r. ⌜ r ≡ switchOf m ShortCount v ⌝ }
 {
     if v == 0 {
         return ModeAnswer::Next(m, Expected::LongCount);
     }
-    ModeAnswer::Next(m, Expected::Byte(v - 1))
+    ModeAnswer::Next(m, Expected::Byte(v as usize - 1))
 }
 
 // A byte of a run with k more behind it, whatever its value.
@@ -176,8 +176,7 @@ fn after_byte(m: Mode, k: usize) -> ModeAnswer
 }
 
 // What the code of value v does to the mode.
-pub fn switch_of(m: Mode, e: Expected, v: usize) -> ModeAnswer
-    requires { ⌜ v < 2 ^ codeWidth m e ⌝ }
+pub fn switch_of(m: Mode, e: Expected, v: u32) -> ModeAnswer
     ensures { λ r. ⌜ r ≡ switchOf m e v ⌝ }
 {
     match e {
@@ -187,7 +186,7 @@ pub fn switch_of(m: Mode, e: Expected, v: usize) -> ModeAnswer
         Expected::Capital => capital_switch(m, v),
         Expected::MoreSwitches => extended_switch(m, v),
         Expected::ShortCount => short_count(m, v),
-        Expected::LongCount => ModeAnswer::Next(m, Expected::Byte(v + 14)),
+        Expected::LongCount => ModeAnswer::Next(m, Expected::Byte(v as usize + 14)),
         Expected::Byte(k) => after_byte(m, k),
     }
 }

@@ -8,11 +8,10 @@ use symbology::PatternColour;
 use tables::CoreRow;
 ghost use Prim.Native.Nat.{_+_, _%_, _≤_, _<_, max};
 ghost use mathlib.Core.Path.{_≡_};
-ghost use mathlib.Core.Bool.{true, cond, not, _&&_, _||_};
+ghost use mathlib.Core.Bool.{cond, not, _&&_, _||_};
 ghost use lib.Dec.{leb, eqb};
 ghost use lib.ListN.{length, take};
 ghost use Rattle.patterns.specs.Cores.{coresFor};
-ghost use Rattle.symbology.specs.Parameters.{inRange};
 ghost use Rattle.symbology.specs.Patterns.{nearCore, finder, cornerAlignment, innerAlignment, patternOf, offCore, inSquares, colourIn, patternColour};
 
 // The rows of Table 2 for the two sides of a symbol. A caller that asks for many modules keeps them.
@@ -23,7 +22,6 @@ pub struct SideCores {
 
 // The cores of a symbol's sides.
 pub fn side_cores(p: Params) -> SideCores
-    requires { ⌜ inRange p ≡ true ⌝ }
     ensures { λ r. ⌜ r ≡ coresFor p ⌝ }
 {
     SideCores {
@@ -231,7 +229,7 @@ fn colour_in(s: Pattern, o: usize, u: usize) -> PatternColour
 
 // The colour that a pattern gives the module at column x, row y, counted from 1.
 pub fn pattern_colour(p: Params, cores: SideCores, x: usize, y: usize) -> PatternColour
-    requires { ⌜ (inRange p ≡ true) × (cores ≡ coresFor p) × (x < 65536) × (y < 65536) ⌝ }
+    requires { ⌜ (cores ≡ coresFor p) × (x < 65536) × (y < 65536) ⌝ }
     ensures { λ r. ⌜ r ≡ patternColour p x y ⌝ }
 {
     let across = cores.across;

@@ -3,17 +3,16 @@
 //
 // `judge_list` is test 2. For each entry it looks through those before it: n entries cost n × n / 2
 // comparisons, half a million for the 1,024 that are allowed. `first_entry` looks through n of them
-// once. The functions serve the crates above this one and ask for what those have tested.
+// once. `judge_list` answers every input; the others ask for entries that the list has.
 use patterns::SideCores;
 use symbology::ListVerdict;
 use symbology::Params;
 use symbology::PatternColour;
 ghost use Prim.Native.Nat.{_+_, _*_, _≤_, _<_};
 ghost use mathlib.Core.Path.{_≡_};
-ghost use mathlib.Core.Bool.{true, not, _||_};
+ghost use mathlib.Core.Bool.{not, _||_};
 ghost use lib.ListN.{length};
 ghost use Rattle.patterns.specs.Cores.{coresFor};
-ghost use Rattle.symbology.specs.Parameters.{inRange};
 ghost use Rattle.symbology.specs.Patterns.{covered};
 ghost use Rattle.symbology.specs.Ranges.{within, lowest};
 ghost use Rattle.symbology.specs.Sides.{columns, rows};
@@ -84,25 +83,24 @@ fn is_covered(colour: PatternColour) -> bool
 }
 
 fn is_outside(p: Params, x: usize, y: usize) -> bool
-    requires { ⌜ inRange p ≡ true ⌝ }
     ensures { λ r. ⌜ r ≡ (not (within 1 (columns p) x) || not (within 1 (rows p) y)) ⌝ }
 {
     if x < 1 {
         return true;
     }
-    if tables::side_size(p.horizontal as usize) < x {
+    if tables::side_size(p.horizontal) < x {
         return true;
     }
     if y < 1 {
         return true;
     }
-    tables::side_size(p.vertical as usize) < y
+    tables::side_size(p.vertical) < y
 }
 
 // Entry k is outside the symbol, on a pattern, at the place of an earlier one, or of a colour that
 // the symbol does not have.
 fn is_bad(p: Params, list: &[u16], cores: SideCores, k: usize) -> bool
-    requires { ⌜ (inRange p ≡ true) × (cores ≡ coresFor p) × (3 * k + 3 ≤ length (now list)) ⌝ }
+    requires { ⌜ (cores ≡ coresFor p) × (3 * k + 3 ≤ length (now list)) ⌝ }
     ensures { λ r. ⌜ r ≡ badAt p (now (list .entry)) k ⌝ }
 {
     let x = column_of(list, k);
@@ -121,7 +119,7 @@ fn is_bad(p: Params, list: &[u16], cores: SideCores, k: usize) -> bool
 
 // The first bad one of the n first entries, and n where none is bad.
 fn first_bad(p: Params, list: &[u16], n: usize) -> usize
-    requires { ⌜ (inRange p ≡ true) × (3 * n ≤ length (now list)) ⌝ }
+    requires { ⌜ 3 * n ≤ length (now list) ⌝ }
     ensures { λ r. ⌜ r ≡ lowest (badAt p (now (list .entry))) n 0 ⌝ }
 {
     let cores = patterns::side_cores(p);
@@ -135,9 +133,8 @@ fn first_bad(p: Params, list: &[u16], n: usize) -> usize
     k
 }
 
-// Test 2, for parameters that pass test 1.
+// Test 2, whatever the parameters are.
 pub fn judge_list(p: Params, list: &[u16]) -> ListVerdict
-    requires { ⌜ inRange p ≡ true ⌝ }
     ensures { λ r. ⌜ r ≡ listVerdict p (now (list .entry)) ⌝ }
 {
     let n = list.len() / 3;

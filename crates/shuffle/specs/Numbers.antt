@@ -3,7 +3,7 @@
 use Prim.Native.Nat.{ℕ, _+_, _*_}
 use mathlib.Core.Path.{_≡_}
 use mathlib.Core.List.{List}
-use Rattle.symbology.specs.Shuffle.{shuffled, unshuffled}
+use Rattle.symbology.specs.Shuffle.{shuffled}
 use Rattle.lent.specs.Buffer.{numberAt, numbersAt, storedNumber, ChangedIn}
 
 -- the buffer with the numbers i and j of those from `at` on exchanged
@@ -17,8 +17,3 @@ exchangedNumbers xs at i j =
 pub record NumbersShuffled (at n state : ℕ) (before after : List ℕ) : Type 0 where
   pub changed : ChangedIn at (at + 2 * n) before after
   pub numbers-are : numbersAt after at n ≡ shuffled 0 state (numbersAt before at n)
-
--- the permutation of the n numbers from `at` on is undone, and nothing else is changed
-pub record NumbersUnshuffled (at n state : ℕ) (before after : List ℕ) : Type 0 where
-  pub changed : ChangedIn at (at + 2 * n) before after
-  pub numbers-are : numbersAt after at n ≡ unshuffled 0 state (numbersAt before at n)

@@ -1,12 +1,12 @@
-// The permutation of 002, Annex E, in place: of bytes, and of numbers of two bytes each, forwards and
-// backwards. A state of the generator is handed in and, forwards, handed on.
+// The permutation of 002, Annex E, in place: of bytes, forwards and backwards, and of numbers of two
+// bytes each, forwards. A state of the generator is handed in and, forwards, handed on.
 //
 // Backwards the exchanges are made in the reverse order. The generator is run to its last state once
 // and then back state by state, so that no list of places is kept.
 ghost use Prim.Native.Nat.{_+_, _*_, _≤_, _<_};
 ghost use mathlib.Core.Path.{_≡_};
 ghost use lib.ListN.{length};
-ghost use Rattle.shuffle.specs.Numbers.{exchangedNumbers, NumbersShuffled, NumbersUnshuffled};
+ghost use Rattle.shuffle.specs.Numbers.{exchangedNumbers, NumbersShuffled};
 ghost use Rattle.symbology.specs.Generator.{stateAfter};
 ghost use Rattle.symbology.specs.Shuffle.{exchanged, shuffled, unshuffled};
 
@@ -81,18 +81,4 @@ pub fn shuffle_numbers(xs: &mut [u8], at: usize, n: usize, state: u64) -> u64
         left -= 1;
     }
     s
-}
-
-// Undoes the permutation of numbers made from the same state.
-pub fn unshuffle_numbers(xs: &mut [u8], at: usize, n: usize, state: u64)
-    requires { ⌜ (n ≤ 4096) × (at + 2 * n ≤ length (now xs)) ⌝ }
-    ensures { λ _. ⌜ NumbersUnshuffled at n state (now (xs .entry)) (now (xs .exit)) ⌝ }
-{
-    let mut s = draws::state_after(n, state);
-    let mut done = 0;
-    while done < n {
-        exchange_numbers(xs, at, draws::drawn_place(s, done + 1), done);
-        s = draws::previous_state(s);
-        done += 1;
-    }
 }

@@ -1,9 +1,10 @@
 // Reads a decimal number from standard input and prints the side of that side-version, or refuses.
 use libc::STDIN_FILENO;
 use libc::STDOUT_FILENO;
-use numerals::Numeral;
+use lister::Numeral;
 
-// The number that standard input is, read piece by piece to its end.
+// The number that standard input is, read piece by piece to its end: 0 where it is none, and some
+// number above 32 where it is above 32.
 fn input_number() -> usize {
     let mut space = io::buffer();
     let mut state = Numeral::Start;
@@ -14,10 +15,10 @@ fn input_number() -> usize {
         if n == 0 {
             break;
         }
-        state = numerals::scan(state, &space[..n]);
+        state = lister::scan(state, &space[..n]);
         turns += 1;
     }
-    numerals::number_of(state)
+    lister::number_of(state)
 }
 
 fn main() {

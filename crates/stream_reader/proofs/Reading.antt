@@ -1,6 +1,6 @@
 -- The reading of a stream, code by code, with the bytes stored as they come.
 -- Assumes nothing.
-use Prim.Native.Nat.{ℕ, _+_, _-_, _^_, _≤_, _<_}
+use Prim.Native.Nat.{ℕ, _+_, _-_, _≤_, _<_}
 use mathlib.Core.Path.{_≡_, refl, sym, ap, _∙_}
 use mathlib.Core.Logic.{_⊎_, inl, inr}
 use mathlib.Core.List.{List, [], _++_}
@@ -19,15 +19,10 @@ use Rattle.symbology.specs.Stream.{Decoded, decode}
 use Rattle.characters.specs.declared.CodeBytes.{CodeBytes}
 use Rattle.characters.specs.Bytes.{codeBytes, bytesIn}
 use Rattle.characters.proofs.Bytes.{bytes-back}
-use Rattle.laws.proofs.Bits.{value-take}
 use Rattle.laws.proofs.Stream.{readFrom, readOn, decode-from, read-step, read-short, bytes-three, bytes-few}
 use Rattle.pieces.specs.Pieces.{StoredAt}
 use Rattle.pieces.proofs.Pieces.{stored-none, same-piece, joined}
 use Rattle.stream_reader.specs.Reading.{StreamRead}
-
--- the number of a code's bits
-pub value-below : (m : Mode) (e : Expected) (bs : List ℕ) {w v : ℕ} → w ≡ codeWidth m e → v ≡ value (take w bs) → v < 2 ^ codeWidth m e
-value-below m e bs {w} same is = rw (is, sym same) (value-take w bs)
 
 -- the reading stands at a mode and an expected code, `at` bits on, with n bytes read and stored
 pub record Stands (stream before : List ℕ) (m : Mode) (e : Expected) (at n : ℕ) (after : List ℕ) : Type 0 where

@@ -1,6 +1,6 @@
 -- 002, 4.3 and Tables 13 to 16: how wide a code is, what it does to the mode, and which bytes it gives.
 -- Assumes nothing.
-use Prim.Native.Nat.{ℕ, zero, suc, _+_, _-_}
+use Prim.Native.Nat.{ℕ, zero, suc, _+_, _-_, _%_}
 use mathlib.Core.Bool.{cond}
 use mathlib.Core.List.{List, [], _∷_}
 use lib.ListN.{getD}
@@ -75,7 +75,7 @@ charactersOf Lower = lowerCharacters
 charactersOf Numeric = numericCharacters
 charactersOf Alphanumeric = alphanumericCharacters
 
--- the bytes that the code of value v gives
+-- the bytes that the code of value v gives; a byte is eight bits, and of a greater number the lowest eight
 unfoldable pub bytesOf : Mode → Expected → ℕ → List ℕ
 bytesOf m Latched v = characterBytes (charactersOf m) v
 bytesOf m Punctuation v = characterBytes punctuationCharacters v
@@ -84,7 +84,7 @@ bytesOf m Capital v = characterBytes upperCharacters v
 bytesOf m MoreSwitches v = []
 bytesOf m ShortCount v = []
 bytesOf m LongCount v = []
-bytesOf m (Byte k) v = v ∷ []
+bytesOf m (Byte k) v = v % 256 ∷ []
 
 -- document 01's number for each case of the enum; 0 where no refusal is meant
 abbrev pub modeNumber : ModeAnswer → ℕ

@@ -2,10 +2,11 @@
 // is checked against all its entries, so others call the accessor. A table lies on the stack while
 // its accessor runs, so a loop keeps a row and does not ask for it again.
 //
-// The functions serve the crates above this one and ask for what those have tested.
+// `core_row` and `side_size` answer for every number; the others serve the crates above this one and
+// ask for what those have tested.
 use symbology::Bits;
 use symbology::Modules;
-ghost use Prim.Native.Nat.{_≤_, _<_};
+ghost use Prim.Native.Nat.{_-_, _≤_, _<_};
 ghost use mathlib.Core.Path.{_≡_};
 ghost use Rattle.tables.specs.Rows.{coreRow, publishedCounts, formulaCounts};
 ghost use Rattle.symbology.specs.Sides.{sideSize, coresOf, innerPatterns};
@@ -147,12 +148,25 @@ const TABLE_2: [CoreRow; 32] = [
     },
 ];
 
-// The core coordinates of a side-version.
+// A side-version's row of Table 2, rows counted from 0, and row 0 for 0 as in the definition.
+fn row_of(version: usize) -> usize
+    ensures { λ r. ⌜ r ≡ version - 1 ⌝ }
+{
+    if version == 0 {
+        return 0;
+    }
+    version - 1
+}
+
+// The core coordinates of a side-version; past 32 there are none.
 pub fn core_row(version: usize) -> CoreRow
-    requires { ⌜ (1 ≤ version) × (version ≤ 32) ⌝ }
     ensures { λ r. ⌜ r ≡ coreRow (coresOf version) ⌝ }
 {
-    TABLE_2[version - 1]
+    let row = row_of(version);
+    if row < 32 {
+        return TABLE_2[row];
+    }
+    CoreRow { len: 0, at: [0; 9] }
 }
 
 fn wide(b: u8) -> usize
@@ -162,11 +176,10 @@ fn wide(b: u8) -> usize
 }
 
 // The modules along a side of a side-version.
-pub fn side_size(version: usize) -> usize
-    requires { ⌜ version ≤ 32 ⌝ }
-    ensures { λ r. ⌜ (r ≡ sideSize version) × (r ≤ 145) ⌝ }
+pub fn side_size(version: u32) -> usize
+    ensures { λ r. ⌜ r ≡ sideSize version ⌝ }
 {
-    17 + 4 * version
+    17 + 4 * version as usize
 }
 
 // The inner patterns of a symbol, those besides the four corner ones: at most 77.

@@ -2,7 +2,7 @@
 use Prim.Native.Nat.{ℕ, _-_, _*_, _≤_}
 use mathlib.Core.Path.{_∙_, ap, ap₂}
 use native.Mathlib.Omega.{arith}
-use Rattle.symbology.specs.Sides.{sideSize, innerPatterns}
+use Rattle.symbology.specs.Sides.{innerPatterns}
 use Rattle.laws.proofs.Parameters.{InRange, ranges}
 use Rattle.capacity.proofs.Bounds.{area-most}
 use Rattle.capacity.proofs.Counts.{modules-are}
@@ -21,14 +21,18 @@ wide-requires-2 : tie.Need-wide-requires-2
 wide-requires-2 c κs = search needs
 
 side-size-requires : tie.Need-side-size-requires
-side-size-requires c κs = omega (arith, known (c .before .before), c .before .wide .ensures)
+side-size-requires c κs = search needs
 
 side-size-requires-2 : tie.Need-side-size-requires-2
-side-size-requires-2 c κs = omega (arith, known (c .before .before .before), c .before .wide2 .ensures)
+side-size-requires-2 c κs = search needs
 
 -- a symbol has few modules
 all-most : (c : tie.After-side-size2) → c .before .side-size .result * c .side-size2 .result ≤ 21025
-all-most c = area-most (c .before .side-size .result) (c .side-size2 .result) (c .before .side-size .ensures .1) (c .side-size2 .ensures .1)
+all-most c =
+    let r = known (c .before .before .before .before) in
+    let across = c .before .side-size in
+    let down = c .side-size2 in
+    area-most (across .result) (down .result) (omega (arith, across .ensures)) (omega (arith, down .ensures))
 
 mul-all : tie.Need-mul-all
 mul-all c = omega (arith, all-most c)
@@ -65,8 +69,8 @@ returns c =
     let corner = c .before .before .corner-modules in (
       modules-are (args .p .kind) (args .p .horizontal) (args .p .vertical) (args .listed)
           (across .result) (down .result) (inner .result) (corner .result) (c .saturating-sub2 .result)
-          (across .ensures .0 ∙ ap sideSize h-is)
-          (down .ensures .0 ∙ ap sideSize v-is)
+          (across .ensures)
+          (down .ensures)
           (inner .ensures .0 ∙ ap₂ innerPatterns h-is v-is)
           (corner .ensures .0)
           (c .saturating-sub2 .ensures ∙ ap (λ (n : ℕ). n - args .listed) (c .before .saturating-sub .ensures)),

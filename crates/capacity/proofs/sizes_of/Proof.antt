@@ -3,9 +3,8 @@ use Prim.Native.Nat.{_*_, _≤_, _<_}
 use mathlib.Core.Path.{_≡_, ap, _∙_}
 use native.Mathlib.Omega.{arith}
 use Rattle.symbology.specs.declared.Bits.{Bits}
-use Rattle.symbology.specs.Sides.{sideSize}
 use Rattle.symbology.specs.Capacity.{asBits}
-use Rattle.laws.proofs.Parameters.{InRange, ranges}
+use Rattle.laws.proofs.Parameters.{InRange, ranges, depth-some}
 use Rattle.capacity.proofs.Bounds.{bits-most, Products, products-most}
 use Rattle.capacity.proofs.Counts.{capacity-of, sizes-are}
 use borrow.Author.Needs.{needs}
@@ -22,8 +21,14 @@ bits-per-module-requires c κs = search needs
 data-modules-requires : tie.Need-data-modules-requires
 data-modules-requires c κs = search needs
 
+-- a module has few bits
+depth-most : (c : tie.After-bits-per-module) → c .bits-per-module .result ≤ 3
+depth-most c =
+    let p = c .before .args .p in
+    omega (arith, c .bits-per-module .ensures, depth-some (p .colours) (known (c .before) .colours-are))
+
 as-bits-requires : tie.Need-as-bits-requires
-as-bits-requires c κs = search needs
+as-bits-requires c κs = (c .data-modules .ensures .1, depth-most (c .before))
 
 wide-requires : tie.Need-wide-requires
 wide-requires c κs = search needs
@@ -40,7 +45,7 @@ unfolding asBits
 c-most c =
     let m = c .before .before .data-modules in
     let d = c .before .before .before .bits-per-module in
-    let most = bits-most (m .result .0) (d .result) (m .ensures .1) (d .ensures .2) in
+    let most = bits-most (m .result .0) (d .result) (m .ensures .1) (depth-most (c .before .before .before)) in
     let same : c .wide .result ≡ m .result .0 * d .result = c .wide .ensures ∙ ap (λ (b : Bits). b .0) (c .before .as-bits .ensures) in
     omega arith
 
@@ -62,56 +67,49 @@ mul-gross c = omega (arith, products c .gross)
 mul-checks : tie.Need-mul-checks
 mul-checks c = omega (arith, products c .checks)
 
+side-size-requires : tie.Need-side-size-requires
+side-size-requires c κs = search needs
+
+side-size-requires-2 : tie.Need-side-size-requires-2
+side-size-requires-2 c κs = search needs
+
 wide-requires-4 : tie.Need-wide-requires-4
 wide-requires-4 c κs = search needs
 
-side-size-requires : tie.Need-side-size-requires
-side-size-requires c κs = omega (arith, known (c .before .before .before .before .before .before .before), c .wide4 .ensures)
+sub-t15 : tie.Need-sub-t15
+sub-t15 c = omega (arith, wc-less (c .before .before .before))
 
-wide-requires-5 : tie.Need-wide-requires-5
-wide-requires-5 c κs = search needs
+mul-t16 : tie.Need-mul-t16
+mul-t16 c = omega (arith, products (c .before .before .before) .net)
 
-side-size-requires-2 : tie.Need-side-size-requires-2
-side-size-requires-2 c κs = omega (arith, known (c .before .before .before .before .before .before .before .before .before), c .wide5 .ensures)
+add-t17 : tie.Need-add-t17
+add-t17 c = omega (arith, products (c .before .before .before) .gross)
 
-wide-requires-6 : tie.Need-wide-requires-6
-wide-requires-6 c κs = search needs
+mul-t19 : tie.Need-mul-t19
+mul-t19 c = omega (arith, products (c .before .before .before) .matrix)
 
-sub-t17 : tie.Need-sub-t17
-sub-t17 c = omega (arith, wc-less (c .before .before .before .before .before))
+mul-t20 : tie.Need-mul-t20
+mul-t20 c = search needs
 
-mul-t18 : tie.Need-mul-t18
-mul-t18 c = omega (arith, products (c .before .before .before .before .before) .net)
-
-add-t19 : tie.Need-add-t19
-add-t19 c = omega (arith, products (c .before .before .before .before .before) .gross)
-
-mul-t21 : tie.Need-mul-t21
-mul-t21 c = omega (arith, products (c .before .before .before .before .before) .matrix)
-
-mul-t22 : tie.Need-mul-t22
-mul-t22 c = search needs
-
-add-t23 : tie.Need-add-t23
-add-t23 c = omega (arith, products (c .before .before .before .before .before) .matrix, c-most (c .before .before .before .before .before .before .before))
+add-t21 : tie.Need-add-t21
+add-t21 c = omega (arith, products (c .before .before .before) .matrix, c-most (c .before .before .before .before .before))
 
 returns : tie.Need-returns
 returns c =
-    let p = c .before .before .before .before .before .before .before .before .before .before .before .args .p in
-    let listed = c .before .before .before .before .before .before .before .before .before .before .before .args .listed in
-    let d = c .before .before .before .before .before .before .before .before .before .before .bits-per-module in
-    let m = c .before .before .before .before .before .before .before .before .before .data-modules in
-    let b = c .before .before .before .before .before .before .before .before .as-bits in
-    let n = c .before .before .before .before .before .before .before .wide in
-    let wr = c .before .before .before .before .before .before .wide2 in
-    let wc = c .before .before .before .before .before .wide3 in
-    let across = c .before .before .before .side-size in
+    let a = c .before .before .before .before .before .before .before .before .before .args in
+    let d = c .before .before .before .before .before .before .before .before .bits-per-module in
+    let m = c .before .before .before .before .before .before .before .data-modules in
+    let b = c .before .before .before .before .before .before .as-bits in
+    let n = c .before .before .before .before .before .wide in
+    let wr = c .before .before .before .before .wide2 in
+    let wc = c .before .before .before .wide3 in
+    let across = c .before .before .side-size in
     let down = c .before .side-size2 in
-    sizes-are p listed (across .result) (down .result) (c .wide6 .result) (n .result) (wc .result) (wr .result)
-    (across .ensures .0 ∙ ap sideSize (c .before .before .before .before .wide4 .ensures))
-    (down .ensures .0 ∙ ap sideSize (c .before .before .wide5 .ensures))
-    (c .wide6 .ensures ∙ d .ensures .0)
-    (capacity-of p listed (m .result) (d .result) (b .result) (n .result) (m .ensures .0) (d .ensures .0) (b .ensures) (n .ensures))
+    sizes-are (a .p) (a .listed) (across .result) (down .result) (c .wide4 .result) (n .result) (wc .result) (wr .result)
+    (across .ensures)
+    (down .ensures)
+    (c .wide4 .ensures ∙ d .ensures)
+    (capacity-of (a .p) (a .listed) (m .result) (d .result) (b .result) (n .result) (m .ensures .0) (d .ensures) (b .ensures) (n .ensures))
     (wc .ensures)
     (wr .ensures)
 
@@ -128,15 +126,13 @@ sizes-of-spec =
     div-block
     mul-gross
     mul-checks
-    wide-requires-4
     side-size-requires
-    wide-requires-5
     side-size-requires-2
-    wide-requires-6
-    sub-t17
-    mul-t18
-    add-t19
-    mul-t21
-    mul-t22
-    add-t23
+    wide-requires-4
+    sub-t15
+    mul-t16
+    add-t17
+    mul-t19
+    mul-t20
+    add-t21
     returns)

@@ -1,5 +1,4 @@
 -- `characters::bytes_of` meets its contract. Assumes nothing.
-use native.Mathlib.Omega.{arith}
 use borrow.Author.Needs.{needs}
 use Rattle.symbology.specs.Modes.{charactersOf, bytesOf}
 use Rattle.characters.proofs.bytes_of.Statement.{statement}
@@ -21,7 +20,7 @@ enum-told-3 : tie.Need-enum-told-3
 enum-told-3 c = search needs
 
 mixed-bytes-requires : tie.Need-mixed-bytes-requires
-mixed-bytes-requires c κs = rw (c .enum-told3 .given .1) at (c .before .before .pre)
+mixed-bytes-requires c κs = search needs
 
 enum-told-4 : tie.Need-enum-told-4
 enum-told-4 c = search needs
@@ -51,7 +50,7 @@ enum-told-8 : tie.Need-enum-told-8
 enum-told-8 c = search needs
 
 cast-one-byte : tie.Need-cast-one-byte
-cast-one-byte c = omega (arith, rw (c .enum-told8 .given .1) at (c .before .before .pre))
+cast-one-byte c = search needs
 
 one-byte-requires : tie.Need-one-byte-requires
 one-byte-requires c κs = search needs

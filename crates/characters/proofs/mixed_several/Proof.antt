@@ -10,11 +10,11 @@ use Rattle.characters.proofs.mixed_several.Tie as tie
 sub-i : tie.Need-sub-i
 sub-i c = search needs
 
-element-copy-out-t10 : tie.Need-element-copy-out-t10
-element-copy-out-t10 c = search needs
+element-copy-out-t11 : tie.Need-element-copy-out-t11
+element-copy-out-t11 c = search needs
 
-element-copy-out-t13 : tie.Need-element-copy-out-t13
-element-copy-out-t13 c = search needs
+element-copy-out-t14 : tie.Need-element-copy-out-t14
+element-copy-out-t14 c = search needs
 
 returns : tie.Need-returns
 unfolding mixedCharacters characterBytes utf8Bytes utf8
@@ -39,8 +39,8 @@ mixed-several-spec =
     tie.close
     (tie.spec
     sub-i
-    element-copy-out-t10
-    element-copy-out-t13
+    element-copy-out-t11
+    element-copy-out-t14
     returns
     element-copy-out-two-bytes
     element-copy-out-two-bytes-2

@@ -2,7 +2,7 @@
 use mathlib.Core.Path.{_∙_, sym, ap₂}
 use native.Mathlib.Omega.{arith}
 use lib.ListN.{set}
-use Rattle.layout.proofs.Walk.{module-inside, cell-legal, mask-legal, bits-there, rank-small, fixed-next, data-next, fixed-module, data-module}
+use Rattle.layout.proofs.Walk.{module-inside, cell-legal, mask-legal, few-before, bits-there, rank-small, fixed-next, data-next, fixed-module, data-module}
 use borrow.Author.Needs.{needs}
 use Rattle.layout.proofs.fill_module.Statement.{statement}
 use Rattle.layout.proofs.fill_module.Tie as tie
@@ -40,33 +40,40 @@ enum-told c = search needs
 depth-of-requires : tie.Need-depth-of-requires
 depth-of-requires c κs = search needs
 
-mul-unmasked-in : tie.Need-mul-unmasked-in
-mul-unmasked-in c =
-    let e = sym (c .before .before .before .cell-at .ensures) ∙ c .before .enum-told .given .1 in
-    omega (arith, bits-there (c .before .before .before .before .before .before .before .before .before .pre .0) (c .depth-of .result) (c .depth-of .ensures .0) (c .before .before .before .before .before .before .before .before .before .pre .1) e)
+bits-before-requires : tie.Need-bits-before-requires
+bits-before-requires c κs =
+    let w = c .before .before .before .before .before .before .before .before .before .pre .0 in
+    (w .symbol .in-range, few-before w)
 
 unmasked-in-requires : tie.Need-unmasked-in-requires
 unmasked-in-requires c κs =
-    let e = sym (c .before .before .before .cell-at .ensures) ∙ c .before .enum-told .given .1 in
-    (bits-there (c .before .before .before .before .before .before .before .before .before .pre .0) (c .depth-of .result) (c .depth-of .ensures .0) (c .before .before .before .before .before .before .before .before .before .pre .1) e, omega (arith, c .depth-of .ensures .1))
+    let s = c .before .before .before .before .before .before .before .before .before .before in
+    let d = c .before .depth-of in
+    let e = sym (c .before .before .before .before .cell-at .ensures) ∙ c .before .before .enum-told .given .1 in
+    (bits-there (s .pre .0) (c .bits-before .result) (d .result) (c .bits-before .ensures) (d .ensures .0) (s .pre .1) e, omega (arith, d .ensures .1))
 
 slice-write-matrix-2 : tie.Need-slice-write-matrix-2
 slice-write-matrix-2 c = search needs
 
 add-result : tie.Need-add-result
 add-result c =
-    let e = sym (c .before .before .before .before .cell-at .ensures) ∙ c .before .before .enum-told .given .1 in
-    omega (arith, rank-small (c .before .before .before .before .before .before .before .before .before .before .pre .0) (c .before .before .before .before .before .before .before .before .before .before .pre .1) e)
+    let s = c .before .before .before .before .before .before .before .before .before .before .before in
+    let e = sym (c .before .before .before .before .before .cell-at .ensures) ∙ c .before .before .before .enum-told .given .1 in
+    omega (arith, rank-small (s .pre .0) (s .pre .1) e)
 
 same-length-2 : tie.Need-same-length-2
 same-length-2 c = search needs
 
 returns-2 : tie.Need-returns-2
 returns-2 c =
-    let a = c .before .before .before .before .before .before .before .before .before .before .args in
-    let w = c .before .before .before .before .before .before .before .before .before .before .pre .0 in
-    let e = sym (c .before .before .before .before .cell-at .ensures) ∙ c .before .before .enum-told .given .1 in
-    (data-next w e, ap₂ (set (a .matrix .now)) (c .before .before .before .before .before .before .index-of .ensures .0) (data-module w (a .bits .now) (c .before .depth-of .result) (c .unmasked-in .result) (c .before .before .before .before .before .mask-at .result) (c .before .depth-of .ensures .0) (c .unmasked-in .ensures) (c .before .before .before .before .before .mask-at .ensures) e))
+    let s = c .before .before .before .before .before .before .before .before .before .before .before in
+    let w = s .pre .0 in
+    let mask = c .before .before .before .before .before .before .mask-at in
+    let d = c .before .before .depth-of in
+    let b = c .before .bits-before in
+    let e = sym (c .before .before .before .before .before .cell-at .ensures) ∙ c .before .before .before .enum-told .given .1 in
+    let held = data-module w (s .args .bits .now) (b .result) (d .result) (c .unmasked-in .result) (mask .result) (b .ensures) (d .ensures .0) (c .unmasked-in .ensures) (mask .ensures) e in
+    (data-next w e, ap₂ (set (s .args .matrix .now)) (c .before .before .before .before .before .before .before .index-of .ensures .0) held)
 
 pub fill-module-spec : {M : Type 1} → statement M
 fill-module-spec =
@@ -81,7 +88,7 @@ fill-module-spec =
     returns
     enum-told
     depth-of-requires
-    mul-unmasked-in
+    bits-before-requires
     unmasked-in-requires
     slice-write-matrix-2
     add-result

@@ -5,14 +5,11 @@ use borrow.Author.Needs.{needs}
 use Rattle.layout.proofs.rows_of.Statement.{statement}
 use Rattle.layout.proofs.rows_of.Tie as tie
 
-wide-requires : tie.Need-wide-requires
-wide-requires c κs = search needs
-
 side-size-requires : tie.Need-side-size-requires
-side-size-requires c κs = omega (arith, ranges (c .before .args .p) (c .before .pre) .vertical-most, c .wide .ensures)
+side-size-requires c κs = search needs
 
 returns : tie.Need-returns
-returns c = omega (arith, c .before .wide .ensures, c .side-size .ensures)
+returns c = (c .side-size .ensures, omega (arith, ranges (c .before .args .p) (c .before .pre) .vertical-most, c .side-size .ensures))
 
 pub rows-of-spec : {M : Type 1} → statement M
-rows-of-spec = tie.close (tie.spec wide-requires side-size-requires returns)
+rows-of-spec = tie.close (tie.spec side-size-requires returns)

@@ -1,10 +1,10 @@
 -- `layout::sample_module` meets its contract. Assumes nothing.
-use Prim.Native.Nat.{ℕ, _*_}
+use Prim.Native.Nat.{_*_}
 use mathlib.Core.Path.{_∙_, sym, ap, ap₂}
 use native.Mathlib.Omega.{arith}
 use lib.Seq.{sets}
 use Rattle.symbology.specs.Capacity.{bitsPerModule}
-use Rattle.layout.proofs.Walk.{module-inside, cell-legal, mask-legal, bits-there, rank-small, fixed-next, data-next, fixed-bits, data-bits-are}
+use Rattle.layout.proofs.Walk.{module-inside, cell-legal, mask-legal, few-before, bits-there, rank-small, fixed-next, data-next, fixed-bits, data-bits-are}
 use borrow.Author.Needs.{needs}
 use Rattle.layout.proofs.sample_module.Statement.{statement}
 use Rattle.layout.proofs.sample_module.Tie as tie
@@ -31,38 +31,47 @@ enum-told-2 c = search needs
 depth-of-requires : tie.Need-depth-of-requires
 depth-of-requires c κs = search needs
 
-mul-put-unmasked : tie.Need-mul-put-unmasked
-mul-put-unmasked c =
-    let e = sym (c .before .before .before .before .cell-at .ensures) ∙ c .before .before .enum-told2 .given .1 in
-    omega (arith, bits-there (c .before .before .before .before .before .before .before .before .before .pre .0) (c .before .depth-of .result) (c .before .depth-of .ensures .0) (c .before .before .before .before .before .before .before .before .before .pre .1) e)
+bits-before-requires : tie.Need-bits-before-requires
+bits-before-requires c κs =
+    let w = c .before .before .before .before .before .before .before .before .before .pre .0 in
+    (w .symbol .in-range, few-before w)
 
 shared-slice-read-put-unmasked : tie.Need-shared-slice-read-put-unmasked
 shared-slice-read-put-unmasked c = search needs
 
 mask-at-requires : tie.Need-mask-at-requires
 mask-at-requires c κs =
-    let m = mask-legal (c .before .before .before .before .before .before .before .before .before .before .pre .0) (c .before .before .before .before .before .before .before .before .before .before .pre .1) in
+    let s = c .before .before .before .before .before .before .before .before .before .before .before in
+    let m = mask-legal (s .pre .0) (s .pre .1) in
     (m .0, omega (arith, m .1, m .2), omega (arith, m .1, m .2))
 
 put-unmasked-requires : tie.Need-put-unmasked-requires
 put-unmasked-requires c κs =
-    let e = sym (c .before .before .before .before .before .before .cell-at .ensures) ∙ c .before .before .before .before .enum-told2 .given .1 in
-    bits-there (c .before .before .before .before .before .before .before .before .before .before .before .pre .0) (c .before .before .before .depth-of .result) (c .before .before .before .depth-of .ensures .0) (c .before .before .before .before .before .before .before .before .before .before .before .pre .1) e
+    let s = c .before .before .before .before .before .before .before .before .before .before .before .before in
+    let b = c .before .before .bits-before in
+    let d = c .before .before .before .before .depth-of in
+    let e = sym (c .before .before .before .before .before .before .before .cell-at .ensures) ∙ c .before .before .before .before .before .enum-told2 .given .1 in
+    bits-there (s .pre .0) (b .result) (d .result) (b .ensures) (d .ensures .0) (s .pre .1) e
 
 add-result : tie.Need-add-result
 add-result c =
-    let e = sym (c .before .before .before .before .before .before .before .before .before .cell-at .ensures) ∙ c .before .before .before .before .before .before .before .enum-told2 .given .1 in
-    omega (arith, rank-small (c .before .before .before .before .before .before .before .before .before .before .before .before .before .before .pre .0) (c .before .before .before .before .before .before .before .before .before .before .before .before .before .before .pre .1) e)
+    let s = c .before .before .before .before .before .before .before .before .before .before .before .before .before .before .before in
+    let e = sym (c .before .before .before .before .before .before .before .before .before .before .cell-at .ensures) ∙ c .before .before .before .before .before .before .before .before .enum-told2 .given .1 in
+    omega (arith, rank-small (s .pre .0) (s .pre .1) e)
 
 same-length : tie.Need-same-length
 same-length c = search needs
 
 returns-2 : tie.Need-returns-2
 returns-2 c =
-    let a = c .before .before .before .before .before .before .before .before .before .before .before .before .before .before .args in
-    let w = c .before .before .before .before .before .before .before .before .before .before .before .before .before .before .pre .0 in
-    let e = sym (c .before .before .before .before .before .before .before .before .before .cell-at .ensures) ∙ c .before .before .before .before .before .before .before .enum-told2 .given .1 in
-    (data-next w e, c .before .before .put-unmasked .ensures ∙ ap₂ (sets (a .out .now)) (ap (λ (n : ℕ). n * a .k) (c .before .before .before .before .before .before .depth-of .ensures .0)) (data-bits-are w (a .matrix .now) (c .before .before .before .before .before .before .depth-of .result) (c .before .before .before .before .before .before .before .before .before .before .index-of .result) (c .before .before .before .mask-at .result) (c .before .before .before .before .before .before .depth-of .ensures .0) (c .before .before .before .before .before .before .before .before .before .before .index-of .ensures .0) (c .before .before .before .mask-at .ensures) e))
+    let s = c .before .before .before .before .before .before .before .before .before .before .before .before .before .before .before in
+    let w = s .pre .0 in
+    let index = c .before .before .before .before .before .before .before .before .before .before .before .index-of in
+    let d = c .before .before .before .before .before .before .before .depth-of in
+    let mask = c .before .before .before .mask-at in
+    let e = sym (c .before .before .before .before .before .before .before .before .before .before .cell-at .ensures) ∙ c .before .before .before .before .before .before .before .before .enum-told2 .given .1 in
+    let held = data-bits-are w (s .args .matrix .now) (d .result) (index .result) (mask .result) (d .ensures .0) (index .ensures .0) (mask .ensures) e in
+    (data-next w e, c .before .before .put-unmasked .ensures ∙ ap₂ (sets (s .args .out .now)) (c .before .before .before .before .before .bits-before .ensures) held)
 
 pub sample-module-spec : {M : Type 1} → statement M
 sample-module-spec =
@@ -74,7 +83,7 @@ sample-module-spec =
     returns
     enum-told-2
     depth-of-requires
-    mul-put-unmasked
+    bits-before-requires
     shared-slice-read-put-unmasked
     mask-at-requires
     put-unmasked-requires

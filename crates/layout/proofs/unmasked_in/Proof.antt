@@ -11,8 +11,8 @@ use Rattle.layout.proofs.unmasked_in.Tie as tie
 bits-value-requires : tie.Need-bits-value-requires
 bits-value-requires c κs = search needs
 
-narrow-requires : tie.Need-narrow-requires
-narrow-requires c κs =
+cast-result : tie.Need-cast-result
+cast-result c =
     let a = c .before .before .args in
     let few : a .n ≤ 8 = c .before .before .pre .1 in
     omega (arith, c .bits-value .ensures, value-take (a .n) (drop (a .at) (a .bits .now)), pow-mono few)
@@ -21,4 +21,4 @@ returns : tie.Need-returns
 returns c = search needs
 
 pub unmasked-in-spec : {M : Type 1} → statement M
-unmasked-in-spec = tie.close (tie.spec bits-value-requires narrow-requires returns)
+unmasked-in-spec = tie.close (tie.spec bits-value-requires cast-result returns)

@@ -33,7 +33,7 @@ returns c =
     c .answered .ensures ∙ sym (out-of-range (a .p) (a .list .now) (refused (tested .in-range .ensures) (c .before .if1 .taken)))
 
 judge-list-requires : tie.Need-judge-list-requires
-judge-list-requires c κs = ranged c
+judge-list-requires c κs = search needs
 
 enum-known-verdict : tie.Need-enum-known-verdict
 enum-known-verdict c = search needs

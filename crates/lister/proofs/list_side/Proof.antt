@@ -2,7 +2,7 @@
 use Prim.Native.Nat.{ℕ}
 use mathlib.Core.Path.{_∙_, ap, subst}
 use mathlib.Core.List.{List}
-use Rattle.numerals.specs.Scanning.{scanNumber}
+use Rattle.lister.specs.Scanning.{scanNumber}
 use Rattle.lister.specs.Listing.{sideText}
 use Rattle.lister.proofs.Text.{Stored}
 use Rattle.lister.proofs.Listing.{scan-listing}

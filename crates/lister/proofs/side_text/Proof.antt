@@ -43,6 +43,9 @@ returns-2 c =
     let e = refused-above (c .before .before .before .before .before .before .before .before .args .version) (c .before .before .before .before .before .if2 .taken) in
     from-start (same-piece e (c .before .before .put-text2 .ensures)) (omega (arith, ap length e))
 
+cast-side-size : tie.Need-cast-side-size
+cast-side-size c = search needs
+
 side-size-requires : tie.Need-side-size-requires
 side-size-requires c κs = search needs
 
@@ -53,7 +56,7 @@ put-number-line-requires c κs = search needs
 first-line : (c : tie.After-put-number-line)
     → let a = c .before .before .before .before .before .before .args in
     StoredAt (numberLine (sideSize (a .version))) 0 (a .out .now) (c .put-number-line .last .0) (c .put-number-line .result)
-first-line c = same-piece (ap numberLine (c .before .side-size .ensures .0)) (c .put-number-line .ensures)
+first-line c = same-piece (ap numberLine (c .before .side-size .ensures)) (c .put-number-line .ensures)
 
 put-cores-line-requires : tie.Need-put-cores-line-requires
 put-cores-line-requires c κs =
@@ -90,6 +93,7 @@ side-text-spec =
     put-text-requires-2
     same-length-2
     returns-2
+    cast-side-size
     side-size-requires
     put-number-line-requires
     put-cores-line-requires

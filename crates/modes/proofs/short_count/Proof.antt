@@ -9,12 +9,12 @@ returns : tie.Need-returns
 unfolding switchOf
 returns c = rw (eq-eqb (c .before .args .v) 0 (c .if1 .taken))
 
-sub-t5 : tie.Need-sub-t5
-sub-t5 c = search needs
+sub-t6 : tie.Need-sub-t6
+sub-t6 c = search needs
 
 returns-2 : tie.Need-returns-2
 unfolding switchOf
 returns-2 c = rw (ne-eqb (c .before .args .v) 0 (c .if1 .left))
 
 pub short-count-spec : {M : Type 1} → statement M
-short-count-spec = tie.close (tie.spec returns sub-t5 returns-2)
+short-count-spec = tie.close (tie.spec returns sub-t6 returns-2)

@@ -1,5 +1,4 @@
 -- `modes::switch_of` meets its contract: one function for each kind of code. Assumes nothing.
-use native.Mathlib.Omega.{arith}
 use borrow.Author.Needs.{needs}
 use Rattle.symbology.specs.Modes.{switchOf}
 use Rattle.modes.proofs.switch_of.Statement.{statement}
@@ -38,8 +37,8 @@ short-count-requires c κs = search needs
 enum-told-7 : tie.Need-enum-told-7
 enum-told-7 c = search needs
 
-add-t8 : tie.Need-add-t8
-add-t8 c = omega (arith, rw (c .enum-told7 .given .1) at (c .before .before .pre))
+add-t9 : tie.Need-add-t9
+add-t9 c = search needs
 
 enum-known-e : tie.Need-enum-known-e
 enum-known-e c = search needs
@@ -89,7 +88,7 @@ switch-of-spec =
     enum-told-6
     short-count-requires
     enum-told-7
-    add-t8
+    add-t9
     enum-known-e
     after-byte-requires
     returns

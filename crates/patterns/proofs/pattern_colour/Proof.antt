@@ -11,7 +11,7 @@ use Rattle.patterns.proofs.pattern_colour.Tie as tie
 
 near-core-requires : tie.Need-near-core-requires
 near-core-requires c κs =
-    let rows = across-row (c .before .before .args .p) (c .before .before .args .cores) (c .before .before .pre .0) (c .before .before .pre .1) in
+    let rows = across-row (c .before .before .args .p) (c .before .before .args .cores) (c .before .before .pre .0) in
     (rows .0, rows .1, omega arith)
 
 enum-known-i : tie.Need-enum-known-i
@@ -23,11 +23,11 @@ enum-told c = search needs
 returns : tie.Need-returns
 returns c =
     let a = c .before .before .before .before .before .args in
-    sym (column-apart (a .p) (a .cores) (c .before .before .before .before .before .pre .0) (c .before .before .before .before .before .pre .1) (a .x) (a .y) (sym (c .before .before .near-core .ensures) ∙ c .enum-told .given .1))
+    sym (column-apart (a .p) (a .cores) (c .before .before .before .before .before .pre .0) (a .x) (a .y) (sym (c .before .before .near-core .ensures) ∙ c .enum-told .given .1))
 
 near-core-requires-2 : tie.Need-near-core-requires-2
 near-core-requires-2 c κs =
-    let rows = down-row (c .before .before .before .before .before .before .args .p) (c .before .before .before .before .before .before .args .cores) (c .before .before .before .before .before .before .pre .0) (c .before .before .before .before .before .before .pre .1) in
+    let rows = down-row (c .before .before .before .before .before .before .args .p) (c .before .before .before .before .before .before .args .cores) (c .before .before .before .before .before .before .pre .0) in
     (rows .0, rows .1, omega arith)
 
 enum-known-j : tie.Need-enum-known-j
@@ -40,7 +40,7 @@ returns-2 : tie.Need-returns-2
 returns-2 c =
     let a = c .before .before .before .before .before .before .before .before .before .args in
     let i = c .before .before .before .before .i .given .0 in
-    sym (row-apart (a .p) (a .cores) (c .before .before .before .before .before .before .before .before .before .pre .0) (c .before .before .before .before .before .before .before .before .before .pre .1) (a .x) (a .y) (i .0) (i .1 .0) (sym (c .before .before .before .before .before .before .near-core .ensures) ∙ c .before .before .before .before .i .given .1) (sym (c .before .before .near-core2 .ensures) ∙ c .enum-told2 .given .1))
+    sym (row-apart (a .p) (a .cores) (c .before .before .before .before .before .before .before .before .before .pre .0) (a .x) (a .y) (i .0) (i .1 .0) (sym (c .before .before .before .before .before .before .near-core .ensures) ∙ c .before .before .before .before .i .given .1) (sym (c .before .before .near-core2 .ensures) ∙ c .enum-told2 .given .1))
 
 wide-requires : tie.Need-wide-requires
 wide-requires c κs = search needs
@@ -53,7 +53,7 @@ pattern-of-requires c κs =
     let a = c .before .before .before .before .before .before .before .before .before .before .before .before .args in
     let i = c .before .before .before .before .before .before .before .i .given .0 in
     let j = c .before .before .before .j .given .0 in
-    (number-across (a .p) (a .cores) (c .before .before .before .before .before .before .before .before .before .before .before .before .pre .0) (c .before .before .before .before .before .before .before .before .before .before .before .before .pre .1) (a .x) (i .0) (i .1 .0) (sym (c .before .before .before .before .before .before .before .before .before .near-core .ensures) ∙ c .before .before .before .before .before .before .before .i .given .1), number-down (a .p) (a .cores) (c .before .before .before .before .before .before .before .before .before .before .before .before .pre .0) (c .before .before .before .before .before .before .before .before .before .before .before .before .pre .1) (a .y) (j .0) (j .1 .0) (sym (c .before .before .before .before .before .near-core2 .ensures) ∙ c .before .before .before .j .given .1))
+    (number-across (a .p) (a .cores) (c .before .before .before .before .before .before .before .before .before .before .before .before .pre .0) (a .x) (i .0) (i .1 .0) (sym (c .before .before .before .before .before .before .before .before .before .near-core .ensures) ∙ c .before .before .before .before .before .before .before .i .given .1), number-down (a .p) (a .cores) (c .before .before .before .before .before .before .before .before .before .before .before .before .pre .0) (a .y) (j .0) (j .1 .0) (sym (c .before .before .before .before .before .near-core2 .ensures) ∙ c .before .before .before .j .given .1))
 
 colour-in-requires : tie.Need-colour-in-requires
 colour-in-requires c κs = search needs
@@ -63,7 +63,7 @@ returns-3 c =
     let a = c .before .before .before .before .before .before .before .before .before .before .before .before .before .before .args in
     let i = c .before .before .before .before .before .before .before .before .before .i .given .0 in
     let j = c .before .before .before .before .before .j .given .0 in
-    let colour = both-near (a .p) (a .cores) (c .before .before .before .before .before .before .before .before .before .before .before .before .before .before .pre .0) (c .before .before .before .before .before .before .before .before .before .before .before .before .before .before .pre .1) (a .x) (a .y) (i .0) (i .1 .0) (j .0) (j .1 .0) (sym (c .before .before .before .before .before .before .before .before .before .before .before .near-core .ensures) ∙ c .before .before .before .before .before .before .before .before .before .i .given .1) (sym (c .before .before .before .before .before .before .before .near-core2 .ensures) ∙ c .before .before .before .before .before .j .given .1) in
+    let colour = both-near (a .p) (a .cores) (c .before .before .before .before .before .before .before .before .before .before .before .before .before .before .pre .0) (a .x) (a .y) (i .0) (i .1 .0) (j .0) (j .1 .0) (sym (c .before .before .before .before .before .before .before .before .before .before .before .near-core .ensures) ∙ c .before .before .before .before .before .before .before .before .before .i .given .1) (sym (c .before .before .before .before .before .before .before .near-core2 .ensures) ∙ c .before .before .before .before .before .j .given .1) in
     let pattern : c .before .pattern-of .result ≡ patternOf (a .p .kind) (a .p .turn) (a .cores .across .len) (a .cores .down .len) (i .0) (j .0) = c .before .pattern-of .ensures ∙ ap₂ (λ (m n : ℕ). patternOf (a .p .kind) (a .p .turn) m n (i .0) (j .0)) (c .before .before .before .wide .ensures .0) (c .before .before .wide2 .ensures .0) in
     c .colour-in .ensures ∙ ap (λ (s : Pattern). colourIn s (i .1 .0) (j .1 .0)) pattern ∙ sym colour
 

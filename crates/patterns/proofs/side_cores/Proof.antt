@@ -1,6 +1,4 @@
 -- `patterns::side_cores` meets its contract. Assumes nothing.
-use native.Mathlib.Omega.{arith}
-use Rattle.laws.proofs.Parameters.{ranges}
 use Rattle.patterns.specs.Cores.{coresFor}
 use borrow.Author.Needs.{needs}
 use Rattle.patterns.proofs.side_cores.Statement.{statement}
@@ -10,17 +8,13 @@ cast-core-row : tie.Need-cast-core-row
 cast-core-row c = search needs
 
 core-row-requires : tie.Need-core-row-requires
-core-row-requires c κs =
-    let r = ranges (c .before .args .p) (c .before .pre) in
-    omega arith
+core-row-requires c κs = search needs
 
 cast-core-row-2 : tie.Need-cast-core-row-2
 cast-core-row-2 c = search needs
 
 core-row-requires-2 : tie.Need-core-row-requires-2
-core-row-requires-2 c κs =
-    let r = ranges (c .before .before .before .args .p) (c .before .before .before .pre) in
-    omega arith
+core-row-requires-2 c κs = search needs
 
 returns : tie.Need-returns
 unfolding coresFor

@@ -2,6 +2,7 @@
 use Prim.Native.Nat.{_-_}
 use mathlib.Core.Path.{_∙_, sym}
 use native.Mathlib.Omega.{arith}
+use borrow.Author.Needs.{needs}
 use Rattle.symbology.specs.Reserved.{badAt}
 use Rattle.laws.proofs.Search.{SearchFrom, search-start, search-next, search-found, search-none}
 use Rattle.reserved.proofs.first_bad.Statement.{statement}
@@ -14,13 +15,13 @@ abbrev μ-loop : tie.MeasureT-loop
 μ-loop p list n cores k₀ k = n - k
 
 side-cores-requires : tie.Need-side-cores-requires Inv-loop μ-loop
-side-cores-requires c κs = c .before .pre .0
+side-cores-requires c κs = search needs
 
 loop-holds : tie.Need-loop-holds Inv-loop μ-loop
 loop-holds c = search-start (badAt (c .before .before .args .p) (c .before .before .args .list .now)) (c .before .before .args .n)
 
 is-bad-requires : tie.Need-is-bad-requires Inv-loop μ-loop
-is-bad-requires c κs = (c .before .before .before .before .pre .0, c .before .before .side-cores .ensures, omega arith)
+is-bad-requires c κs = (c .before .before .side-cores .ensures, omega arith)
 
 returns : tie.Need-returns Inv-loop μ-loop
 returns c =

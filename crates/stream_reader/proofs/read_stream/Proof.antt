@@ -2,11 +2,11 @@
 use Prim.Native.Nat.{_-_}
 use mathlib.Core.Path.{sym, _∙_}
 use native.Mathlib.Omega.{arith}
-use lib.ListN.{length, drop}
+use lib.ListN.{length}
 use borrow.Author.Needs.{needs}
 use Rattle.laws.proofs.Stream.{width-some, width-most}
 use Rattle.pieces.proofs.Pieces.{stored-kept}
-use Rattle.stream_reader.proofs.Reading.{Stands, Coded, stands-first, stands-short, stands-next, stands-stop, value-below, no-other}
+use Rattle.stream_reader.proofs.Reading.{Stands, Coded, stands-first, stands-short, stands-next, stands-stop, no-other}
 use Rattle.stream_reader.proofs.read_stream.Statement.{statement}
 use Rattle.stream_reader.proofs.read_stream.Tie as tie
 
@@ -55,10 +55,7 @@ bits-value-requires c κs =
     (omega (arith, l .inv .within), omega (arith, c .before .code-width .ensures, width-most (l .mode) (l .expected)))
 
 bytes-of-requires : tie.Need-bytes-of-requires Inv-loop μ-loop
-bytes-of-requires c κs =
-    let l = c .before .before .before .before .loop in
-    let stream = c .before .before .before .before .before .before .before .args .stream .now in
-    value-below (l .mode) (l .expected) (drop (l .at) stream) (c .before .before .before .code-width .ensures) (c .before .bits-value .ensures)
+bytes-of-requires c κs = search needs
 
 put-bytes-requires : tie.Need-put-bytes-requires Inv-loop μ-loop
 put-bytes-requires c κs = omega arith
@@ -67,10 +64,7 @@ add-at : tie.Need-add-at Inv-loop μ-loop
 add-at c = omega arith
 
 switch-of-requires : tie.Need-switch-of-requires Inv-loop μ-loop
-switch-of-requires c κs =
-    let l = c .before .before .before .before .before .before .before .before .loop in
-    let stream = c .before .before .before .before .before .before .before .before .before .before .before .args .stream .now in
-    value-below (l .mode) (l .expected) (drop (l .at) stream) (coded c .width) (coded c .number)
+switch-of-requires c κs = search needs
 
 enum-known-answer : tie.Need-enum-known-answer Inv-loop μ-loop
 enum-known-answer c = search needs

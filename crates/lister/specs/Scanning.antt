@@ -4,9 +4,9 @@ use Prim.Native.Nat.{ℕ, _+_, _*_}
 use mathlib.Core.Bool.{cond}
 use mathlib.Core.List.{List, [], _∷_}
 use lib.Dec.{ltb, eqb}
-use Rattle.numerals.specs.declared.Numeral.{Numeral}
-use Rattle.numerals.specs.declared.Numeral.the-variants.{Start, Digits, Ended, Broken}
-use Rattle.numerals.specs.Decimal.{digitOf}
+use Rattle.lister.specs.declared.Numeral.{Numeral}
+use Rattle.lister.specs.declared.Numeral.the-variants.{Start, Digits, Ended, Broken}
+use Rattle.lister.specs.Numeral.{digitOf}
 
 -- one digit more; above 32 a number stays as it is
 abbrev pub grown : ℕ → ℕ → ℕ

@@ -11,10 +11,10 @@ use lib.ListN.{length, getD, drop}
 use lib.Seq.{drop-cons}
 use lib.Dec.{eqb}
 use borrow.Author.Tests.{eq-eqb, ne-eqb, lt-ltb, le-ltb, lt-leb, le-leb}
-use Rattle.numerals.specs.declared.Numeral.{Numeral}
-use Rattle.numerals.specs.declared.Numeral.the-variants.{Start, Digits, Ended, Broken}
-use Rattle.numerals.specs.Decimal.{isDigit, digitOf, isEnd, restOfNumeral, isNumeral, numeralValue, numberIn}
-use Rattle.numerals.specs.Scanning.{grown, scanned, scannedAll, scanNumber}
+use Rattle.lister.specs.declared.Numeral.{Numeral}
+use Rattle.lister.specs.declared.Numeral.the-variants.{Start, Digits, Ended, Broken}
+use Rattle.lister.specs.Numeral.{isDigit, digitOf, isEnd, restOfNumeral, isNumeral, numeralValue, numberIn}
+use Rattle.lister.specs.Scanning.{grown, scanned, scannedAll, scanNumber}
 
 -- ---- one byte
 

@@ -1,9 +1,9 @@
--- `numerals::scan_byte` meets its contract: one step law for each way out. Assumes nothing.
+-- `lister::scan_byte` meets its contract: one step law for each way out. Assumes nothing.
 use native.Mathlib.Omega.{arith}
-use Rattle.numerals.proofs.Scanning.{start-other, start-digit, digits-other, digits-digit, digits-newline, ended-byte, broken-byte}
+use Rattle.lister.proofs.Scanning.{start-other, start-digit, digits-other, digits-digit, digits-newline, ended-byte, broken-byte}
 use borrow.Author.Needs.{needs}
-use Rattle.numerals.proofs.scan_byte.Statement.{statement}
-use Rattle.numerals.proofs.scan_byte.Tie as tie
+use Rattle.lister.proofs.scan_byte.Statement.{statement}
+use Rattle.lister.proofs.scan_byte.Tie as tie
 
 digit-of-requires : tie.Need-digit-of-requires
 digit-of-requires c κs = search needs

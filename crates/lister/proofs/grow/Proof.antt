@@ -1,8 +1,8 @@
--- `numerals::grow` meets its contract. Assumes nothing.
+-- `lister::grow` meets its contract. Assumes nothing.
 use borrow.Author.Tests.{lt-ltb, le-ltb}
 use borrow.Author.Needs.{needs}
-use Rattle.numerals.proofs.grow.Statement.{statement}
-use Rattle.numerals.proofs.grow.Tie as tie
+use Rattle.lister.proofs.grow.Statement.{statement}
+use Rattle.lister.proofs.grow.Tie as tie
 
 returns : tie.Need-returns
 returns c = simp (lt-ltb 32 (c .before .args .n) (c .if1 .taken))

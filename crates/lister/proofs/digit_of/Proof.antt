@@ -1,9 +1,9 @@
--- `numerals::digit_of` meets its contract. Assumes nothing.
+-- `lister::digit_of` meets its contract. Assumes nothing.
 use borrow.Author.Tests.{lt-leb, le-leb}
 use native.Mathlib.Omega.{arith}
 use borrow.Author.Needs.{needs}
-use Rattle.numerals.proofs.digit_of.Statement.{statement}
-use Rattle.numerals.proofs.digit_of.Tie as tie
+use Rattle.lister.proofs.digit_of.Statement.{statement}
+use Rattle.lister.proofs.digit_of.Tie as tie
 
 returns : tie.Need-returns
 returns c = (simp (lt-leb 48 (c .before .args .b) (c .if1 .taken)), omega arith)

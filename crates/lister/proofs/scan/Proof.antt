@@ -1,13 +1,13 @@
--- `numerals::scan` meets its contract. The invariant: what is left, scanned from here, gives the result. Assumes nothing.
+-- `lister::scan` meets its contract. The invariant: what is left, scanned from here, gives the result. Assumes nothing.
 use Prim.Native.Nat.{_≤_, _<_, _-_}
 use mathlib.Core.Path.{_≡_, _∙_, refl}
 use native.Mathlib.Omega.{arith}
 use borrow.Author.Needs.{needs}
 use lib.ListN.{length, drop, drop-of-length-le}
-use Rattle.numerals.specs.Scanning.{scannedAll}
-use Rattle.numerals.proofs.Scanning.{scanned-next}
-use Rattle.numerals.proofs.scan.Statement.{statement}
-use Rattle.numerals.proofs.scan.Tie as tie
+use Rattle.lister.specs.Scanning.{scannedAll}
+use Rattle.lister.proofs.Scanning.{scanned-next}
+use Rattle.lister.proofs.scan.Statement.{statement}
+use Rattle.lister.proofs.scan.Tie as tie
 
 abbrev Inv-loop : tie.InvT-loop
 Inv-loop bytes s₀ i₀ s i = (i ≤ length bytes) × (scannedAll s (drop i bytes) ≡ scannedAll s₀ bytes)
