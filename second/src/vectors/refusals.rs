@@ -9,7 +9,7 @@ use second::Params;
 /// in every program; the random cases have others.
 type Fault = (&'static str, fn(&mut Params));
 
-const FAULTS: [Fault; 25] = [
+const FAULTS: [Fault; 28] = [
     ("the kind is 2", |p| p.kind = 2),
     ("the kind is 4294967295", |p| p.kind = u32::MAX),
     ("the horizontal side-version is 0", |p| p.horizontal = 0),
@@ -21,7 +21,10 @@ const FAULTS: [Fault; 25] = [
         p.vertical = 0x4000_0001
     }),
     ("there are 0 colours", |p| p.colours = 0),
+    ("there are 3 colours", |p| p.colours = 3),
     ("there are 5 colours", |p| p.colours = 5),
+    ("there are 6 colours", |p| p.colours = 6),
+    ("there are 7 colours", |p| p.colours = 7),
     ("there are 9 colours", |p| p.colours = 9),
     ("there are 260 colours", |p| p.colours = 260),
     ("black is 8", |p| p.black = 8),
