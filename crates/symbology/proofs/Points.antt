@@ -23,14 +23,18 @@ use Rattle.symbology.specs.Write.{writeTests, writeAnswer}
 use Rattle.symbology.specs.Read.{sameBits, answerFromNet, readAnswer}
 use Rattle.symbology.proofs.Parameters.{paramsOf}
 
+-- a primary symbol with 8 colours, wc 4 and wr 9, of these side-versions
+abbrev sided : ℕ → ℕ → Params
+sided horizontal vertical = paramsOf (0 ∷ horizontal ∷ vertical ∷ 8 ∷ 0 ∷ 3 ∷ 2 ∷ 4 ∷ 9 ∷ 0 ∷ 0 ∷ [])
+
 -- a square primary symbol
 abbrev symbol : ℕ → ℕ → ℕ → ℕ → Params
 symbol version colours wc wr = paramsOf (0 ∷ version ∷ version ∷ colours ∷ 0 ∷ 3 ∷ 2 ∷ wc ∷ wr ∷ 0 ∷ 0 ∷ [])
 
 -- the numbers that a write of the empty message and a read answer, with no list and empty buffers
-abbrev answered : ℕ → List ℕ
-answered version =
-    writeAnswer (symbol version 8 4 9) [] [] 0 0 .number ∷ readAnswer (symbol version 8 4 9) [] [] 0 0 .number ∷ []
+abbrev answered : ℕ → ℕ → List ℕ
+answered horizontal vertical =
+    writeAnswer (sided horizontal vertical) [] [] 0 0 .number ∷ readAnswer (sided horizontal vertical) [] [] 0 0 .number ∷ []
 
 -- 24 entries, in the rows 1 and 21 of side-version 1, where no pattern lies
 abbrev entries24 : List ℕ
@@ -61,10 +65,16 @@ points =
     -- P1
     eqb (sideSize 1) 21
     ∷ eqb (sideSize 32) 145
-    ∷ sameBits (answered 0) (1 ∷ 1 ∷ [])
-    ∷ sameBits (answered 33) (1 ∷ 1 ∷ [])
-    ∷ sameBits (answered 1) (4 ∷ 4 ∷ [])
-    ∷ sameBits (answered 32) (3 ∷ 3 ∷ [])
+    ∷ sameBits (answered 0 0) (1 ∷ 1 ∷ [])
+    ∷ sameBits (answered 0 1) (1 ∷ 1 ∷ [])
+    ∷ sameBits (answered 1 0) (1 ∷ 1 ∷ [])
+    ∷ sameBits (answered 33 33) (1 ∷ 1 ∷ [])
+    ∷ sameBits (answered 33 32) (1 ∷ 1 ∷ [])
+    ∷ sameBits (answered 32 33) (1 ∷ 1 ∷ [])
+    ∷ sameBits (answered 1 1) (4 ∷ 4 ∷ [])
+    ∷ sameBits (answered 32 32) (3 ∷ 3 ∷ [])
+    ∷ sameBits (answered 1 32) (3 ∷ 3 ∷ [])
+    ∷ sameBits (answered 32 1) (3 ∷ 3 ∷ [])
     -- P2
     ∷ eqb (innerPatterns 10 10) 12
     ∷ eqb (patternModules 0 10 10) 152
