@@ -23,6 +23,11 @@ impl Generator {
     /// Steps 2 to 6 of Annex E. The draw with one place left moves nothing but
     /// the generator.
     pub fn shuffle<T>(&mut self, items: &mut [T]) {
+        self.shuffle_by(items, place);
+    }
+
+    /// The same with another way from a draw to a place.
+    pub fn shuffle_by<T>(&mut self, items: &mut [T], place: fn(u32, usize) -> usize) {
         for left in (1..=items.len()).rev() {
             let chosen = place(self.draw(), left);
             items.swap(chosen, left - 1);

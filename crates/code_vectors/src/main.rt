@@ -1,9 +1,12 @@
 // Runs the check matrix and the interleaving on known sizes and prints what they give, a number to a
-// line: the nine columns, from 0, of the first row of A at t 116, wc 3 and wr 9; then, for the first
-// six places of the interleaving of 1,047 bits, which bit of the sequence stands there.
+// line: the nine columns, from 0, of the first row of each block of A at t 116, wc 3 and wr 9; then, for
+// the ten places of the interleaving of 10 bits and the first six of that of 1,047, which bit of the
+// sequence stands there; and the bits of the ten places when their interleaving is undone.
+//
+// The work buffer has 53,964 bytes, document 01's limit for programs.
 use lent::Areas;
 use libc::STDOUT_FILENO;
-ghost use Prim.Native.Nat.{_*_};
+ghost use Prim.Native.Nat.{_*_, _≤_, _<_};
 ghost use mathlib.Core.Path.{_≡_};
 ghost use lib.ListN.{length};
 ghost use Rattle.lent.specs.Buffer.{Laid};
@@ -15,7 +18,7 @@ fn print_line(n: usize) {
 
 // The areas of a work buffer for 1,047 bits with wc 3 and wr 9.
 fn areas() -> Areas
-    ensures { λ r. ⌜ Laid r 65536 × (r .gross ≡ 116 * 9) × (r .checks ≡ 116 * 3) ⌝ }
+    ensures { λ r. ⌜ Laid r 53964 × (r .gross ≡ 116 * 9) × (r .checks ≡ 116 * 3) ⌝ }
 {
     Areas {
         checks: 348,
@@ -29,35 +32,62 @@ fn areas() -> Areas
     }
 }
 
-fn print_first_row(work: &mut [u8])
-    requires { ⌜ length (now work) ≡ 65536 ⌝ }
+// Prints the columns of a row of A.
+fn print_row(work: &[u8], a: Areas, row: usize)
+    requires { ⌜ Laid a (length (now work)) × (row < a .checks) ⌝ }
 {
-    let a = areas();
-    check_matrix::build(work, a, 116, 3, 9);
     let mut j = 0;
     while j < a.gross {
-        if dense::bit(work, a.stride, 0, j) {
+        if dense::bit(work, a.stride, row, j) {
             print_line(j);
         }
         j += 1;
     }
 }
 
-fn print_interleaving(work: &mut [u8])
-    requires { ⌜ length (now work) ≡ 65536 ⌝ }
+fn print_rows(work: &mut [u8])
+    requires { ⌜ length (now work) ≡ 53964 ⌝ }
 {
-    lent::count_up(work, 0, 1047);
-    shuffle::shuffle_numbers(work, 0, 1047, shuffle::INTERLEAVING_SEED);
+    let a = areas();
+    check_matrix::build(work, a, 116, 3, 9);
+    print_row(work, a, 0);
+    print_row(work, a, 116);
+    print_row(work, a, 232);
+}
+
+// Prints the first n numbers of two bytes.
+fn print_numbers(work: &[u8], n: usize)
+    requires { ⌜ 2 * n ≤ length (now work) ⌝ }
+{
     let mut i = 0;
-    while i < 6 {
+    while i < n {
         print_line(lent::number_at(work, 2 * i));
         i += 1;
     }
 }
 
+// Interleaves the numbers below n, the first of which are printed.
+fn print_interleaving(work: &mut [u8], n: usize, shown: usize)
+    requires { ⌜ (length (now work) ≡ 53964) × (n ≤ 1047) × (shown ≤ n) ⌝ }
+{
+    lent::count_up(work, 0, n);
+    shuffle::shuffle_numbers(work, 0, n, shuffle::INTERLEAVING_SEED);
+    print_numbers(work, shown);
+}
+
+// Undoes the interleaving of the first n numbers.
+fn print_undone(work: &mut [u8], n: usize)
+    requires { ⌜ (length (now work) ≡ 53964) × (n ≤ 1047) ⌝ }
+{
+    shuffle::unshuffle_numbers(work, 0, n, shuffle::INTERLEAVING_SEED);
+    print_numbers(work, n);
+}
+
 fn main() {
-    let mut space = io::large_buffer();
+    let mut space = [0u8; 53964];
     let work: &mut [u8] = &mut space;
-    print_first_row(work);
-    print_interleaving(work);
+    print_rows(work);
+    print_interleaving(work, 10, 10);
+    print_undone(work, 10);
+    print_interleaving(work, 1047, 6);
 }

@@ -6,10 +6,11 @@
 //     1 kind h v N black cyan yellow wc wr mask turn L list[0..L] W R M matrix[0..M]
 //
 // The first is a write and the second a read. L is the length of the list, at most 3,100; M that of the
-// matrix, at most 4,096; W that of the work buffer, at most 65,536; n that of the message and R that of
+// matrix, at most 4,096; W that of the work buffer, at most 53,964; n that of the message and R that of
 // the message buffer, each at most 1,024. A parameter has at most 32 bits, a number of the list 16 and
-// one of the message or the matrix 8. What a call stores to is filled with the byte 165 before. Each
-// case prints one line:
+// one of the message or the matrix 8. Document 01: programs keep to symbols of C at most 1,047 with wc 3,
+// wr 9; of these, 53,964 work bytes pass test 5. What a call stores to is filled with the byte 165 before.
+// Each case prints one line:
 //
 //     write NUMBER PLACE WORK MATRIX
 //     read NUMBER PLACE LENGTH REPAIRS UNMET WORK REST BYTES
@@ -17,8 +18,8 @@
 // WORK is `zero` where all W bytes are 0, or `kept` where all are 165, or `changed`. MATRIX is the
 // modules, a digit each, or after a refusal `kept` where all M bytes are 165, or `changed`. REST says the
 // same of the message buffer behind its first LENGTH bytes, and BYTES are these, in decimal. A line that
-// has another form or a number above its limit prints `bad case`. Of the input the first 524,288 bytes
-// are read.
+// has another form, a number above its limit, or another wc or wr prints `bad case`. Of the input the
+// first 524,288 bytes are read.
 use libc::STDIN_FILENO;
 use libc::STDOUT_FILENO;
 use symbology::Params;
@@ -290,7 +291,9 @@ fn print_matrix(number: u32, matrix: &mut [u8]) {
 
 // ---- cases
 
-fn run_write(p: Params, list: &[u16], message: &[u8], matrix: &mut [u8], work: &mut [u8]) {
+fn run_write(p: Params, list: &[u16], message: &[u8], matrix: &mut [u8], work: &mut [u8])
+    requires { ⌜ (p .wc ≡ 3) × (p .wr ≡ 9) × (length (now work) ≤ 53964) ⌝ }
+{
     fill(matrix);
     fill(work);
     let answer = jabcode::write(p, list, message, matrix, work);
@@ -318,7 +321,9 @@ fn print_read(answer: ReadAnswer) {
     print_number(answer.unmet);
 }
 
-fn run_read(p: Params, list: &[u16], matrix: &[u8], work: &mut [u8], message: &mut [u8]) {
+fn run_read(p: Params, list: &[u16], matrix: &[u8], work: &mut [u8], message: &mut [u8])
+    requires { ⌜ (p .wc ≡ 3) × (p .wr ≡ 9) × (length (now work) ≤ 53964) ⌝ }
+{
     fill(work);
     fill(message);
     let answer = read(p, list, matrix, work, message);
@@ -339,7 +344,9 @@ fn write_case(
     matrix: &mut [u8],
     work: &mut [u8],
     message: &mut [u8],
-) {
+)
+    requires { ⌜ (p .wc ≡ 3) × (p .wr ≡ 9) × (length (now work) ≤ 53964) ⌝ }
+{
     let end = take_bytes(line, at, message);
     if end != line.len() + 1 {
         return print(b"bad case\n");
@@ -356,7 +363,9 @@ fn read_case(
     matrix: &mut [u8],
     work: &mut [u8],
     message: &mut [u8],
-) {
+)
+    requires { ⌜ (p .wc ≡ 3) × (p .wr ≡ 9) × (length (now work) ≤ 53964) ⌝ }
+{
     let end = take_bytes(line, at, matrix);
     if end != line.len() + 1 {
         return print(b"bad case\n");
@@ -374,9 +383,10 @@ fn write_line(
     work: &mut [u8],
     message: &mut [u8],
 )
-    requires { ⌜ (4096 ≤ length (now matrix)) × (65536 ≤ length (now work)) × (1024 ≤ length (now message)) ⌝ }
+    requires { ⌜ (p .wc ≡ 3) × (p .wr ≡ 9) ⌝ }
+    requires { ⌜ (4096 ≤ length (now matrix)) × (53964 ≤ length (now work)) × (1024 ≤ length (now message)) ⌝ }
 {
-    let given = take_lengths(line, at, 4096, 65536, 1024);
+    let given = take_lengths(line, at, 4096, 53964, 1024);
     let m = given.first;
     let w = given.second;
     let n = given.third;
@@ -401,9 +411,10 @@ fn read_line(
     work: &mut [u8],
     message: &mut [u8],
 )
-    requires { ⌜ (4096 ≤ length (now matrix)) × (65536 ≤ length (now work)) × (1024 ≤ length (now message)) ⌝ }
+    requires { ⌜ (p .wc ≡ 3) × (p .wr ≡ 9) ⌝ }
+    requires { ⌜ (4096 ≤ length (now matrix)) × (53964 ≤ length (now work)) × (1024 ≤ length (now message)) ⌝ }
 {
-    let given = take_lengths(line, at, 65536, 1024, 4096);
+    let given = take_lengths(line, at, 53964, 1024, 4096);
     let w = given.first;
     let r = given.second;
     let m = given.third;
@@ -425,21 +436,43 @@ fn is_comment(line: &[u8]) -> bool {
     false
 }
 
+// A case from its list on, whose first number is `call`.
+fn run_case(
+    line: &[u8],
+    call: u32,
+    given: Front,
+    list: &mut [u16],
+    matrix: &mut [u8],
+    work: &mut [u8],
+    message: &mut [u8],
+)
+    requires { ⌜ (given .p .wc ≡ 3) × (given .p .wr ≡ 9) × (given .entries ≤ 3100) ⌝ }
+    requires { ⌜ (3100 ≤ length (now list)) × (4096 ≤ length (now matrix)) × (53964 ≤ length (now work)) × (1024 ≤ length (now message)) ⌝ }
+{
+    let p = given.p;
+    let l = given.entries;
+    let at = take_list(line, given.next, &mut list[0..l]);
+    if call == 1 {
+        return read_line(line, at, p, &list[0..l], matrix, work, message);
+    }
+    write_line(line, at, p, &list[0..l], matrix, work, message)
+}
+
 fn run_line(line: &[u8], list: &mut [u16], matrix: &mut [u8], work: &mut [u8], message: &mut [u8])
-    requires { ⌜ (3100 ≤ length (now list)) × (4096 ≤ length (now matrix)) × (65536 ≤ length (now work)) × (1024 ≤ length (now message)) ⌝ }
+    requires { ⌜ (3100 ≤ length (now list)) × (4096 ≤ length (now matrix)) × (53964 ≤ length (now work)) × (1024 ≤ length (now message)) ⌝ }
 {
     if is_comment(line) {
         return;
     }
     let call = number(line, 0, 1);
     let given = take_front(line, call.next);
-    let p = given.p;
-    let l = given.entries;
-    let at = take_list(line, given.next, &mut list[0..l]);
-    if call.value == 1 {
-        return read_line(line, at, p, &list[0..l], matrix, work, message);
+    if given.p.wc != 3 {
+        return print(b"bad case\n");
     }
-    write_line(line, at, p, &list[0..l], matrix, work, message)
+    if given.p.wr != 9 {
+        return print(b"bad case\n");
+    }
+    run_case(line, call.value, given, list, matrix, work, message)
 }
 
 // Where the line that starts at `from` ends.
@@ -458,7 +491,7 @@ fn line_end(input: &[u8], from: usize) -> usize
 }
 
 fn run_lines(input: &[u8], list: &mut [u16], matrix: &mut [u8], work: &mut [u8], message: &mut [u8])
-    requires { ⌜ (3100 ≤ length (now list)) × (4096 ≤ length (now matrix)) × (65536 ≤ length (now work)) × (1024 ≤ length (now message)) ⌝ }
+    requires { ⌜ (3100 ≤ length (now list)) × (4096 ≤ length (now matrix)) × (53964 ≤ length (now work)) × (1024 ≤ length (now message)) ⌝ }
 {
     let mut from = 0;
     while from < input.len() {
@@ -479,7 +512,7 @@ fn main() {
     let mut input = input_buffer();
     let mut list = [0u16; 3100];
     let mut matrix = io::buffer();
-    let mut work = io::large_buffer();
+    let mut work = [0u8; 53964];
     let mut message = [0u8; 1024];
     let n = io::read_full(STDIN_FILENO, &mut input);
     run_lines(&input[..n], &mut list, &mut matrix, &mut work, &mut message);

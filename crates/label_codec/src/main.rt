@@ -12,12 +12,15 @@
 // work bytes and checks, which are 0 with 1, 2 and 3. `colours` prints how many colours there are and the
 // indices of black, cyan and yellow.
 //
-// The work buffer has 53,964 bytes, document 01's limit for programs.
+// Document 01: programs keep to symbols of C at most 1,047 with wc 3, wr 9. Another wc or wr is refused here,
+// with a line of 100, which is no number of document 01, and eleven zeros. The work buffer has 53,964
+// bytes: with wc 3 and wr 9 just the symbols of C at most 1,047 pass test 5.
 use libc::STDIN_FILENO;
 use libc::STDOUT_FILENO;
 use symbology::Params;
 use calls::ReadAnswer;
 ghost use Prim.Native.Nat.{_+_, _≤_, _<_};
+ghost use mathlib.Core.Path.{_≡_};
 ghost use lib.ListN.{length};
 
 // The greatest parameter.
@@ -68,7 +71,8 @@ fn argument(i: usize, otherwise: u32) -> u32 {
     decimal(&text[..n])
 }
 
-// A default that differs with the number of colours.
+// A default that differs with the number of colours. Those of 8 colours are the indices in Table 3 of document
+// 002; document 000 names that table too, and its public sample ends before it.
 fn by_colours(colours: u32, of_eight: u32, of_four: u32) -> u32 {
     if colours == 4 {
         return of_four;
@@ -233,6 +237,11 @@ fn print_colours(p: Params) {
     );
 }
 
+// Prints the refusal of a wc or wr beyond the limit.
+fn print_beyond() {
+    print_numbers(&[100, 0, 0, 0, 0, 0, 0, 0, 0, 0, 0, 0]);
+}
+
 fn area(columns: usize, rows: usize) -> usize
     requires { ⌜ (columns ≤ 145) × (rows ≤ 145) ⌝ }
     ensures { λ r. ⌜ r ≤ 21025 ⌝ }
@@ -240,18 +249,9 @@ fn area(columns: usize, rows: usize) -> usize
     columns * rows
 }
 
-// K of a symbol, and 0 where its parameters are refused.
-fn checks(capacity: usize, wc: u32, wr: u32) -> usize {
-    if 4096 < capacity {
-        return 0;
-    }
-    if wr < 4 {
-        return 0;
-    }
-    if 8 < wc {
-        return 0;
-    }
-    capacity / wr as usize * wc as usize
+// K of a symbol with wc 3 and wr 9.
+fn checks(capacity: usize) -> usize {
+    capacity / 9 * 3
 }
 
 // Prints the numbers of an answer and of its symbol.
@@ -270,7 +270,7 @@ fn print_answer(p: Params, list: &[u16], answer: ReadAnswer, modules: usize) {
             sizes.capacity,
             sizes.net,
             sizes.work,
-            checks(sizes.capacity, p.wc, p.wr),
+            checks(sizes.capacity),
         ],
     );
 }
@@ -300,7 +300,9 @@ fn print_rows(digits: &[u8], columns: usize)
 }
 
 // Writes a record into a matrix of the symbol's modules, and prints it or the refusal.
-fn write_record(p: Params, list: &[u16], record: &[u8], matrix: &mut [u8]) {
+fn write_record(p: Params, list: &[u16], record: &[u8], matrix: &mut [u8])
+    requires { ⌜ (p .wc ≡ 3) × (p .wr ≡ 9) ⌝ }
+{
     let mut work = [0u8; 53964];
     let answer = jabcode::write(p, list, record, matrix, &mut work);
     if answer.number != 0 {
@@ -318,7 +320,9 @@ fn write_record(p: Params, list: &[u16], record: &[u8], matrix: &mut [u8]) {
 }
 
 // Writes a record. One that fills its buffer has no room in any symbol, whatever stands behind it.
-fn write_label(p: Params, list: &[u16]) {
+fn write_label(p: Params, list: &[u16])
+    requires { ⌜ (p .wc ≡ 3) × (p .wr ≡ 9) ⌝ }
+{
     let mut record = io::large_buffer();
     let mut matrix = io::large_buffer();
     let n = io::read_full(STDIN_FILENO, &mut record);
@@ -398,7 +402,9 @@ fn read_modules(matrix: &mut [u8]) -> usize
 
 // Reads a text and prints the answer and the message. The message fits: it has no more bytes than the
 // symbol net bits, and those are fewer than 4,096.
-fn read_label(p: Params, list: &[u16]) {
+fn read_label(p: Params, list: &[u16])
+    requires { ⌜ (p .wc ≡ 3) × (p .wr ≡ 9) ⌝ }
+{
     let mut matrix = io::large_buffer();
     let mut work = [0u8; 53964];
     let mut message = io::buffer();
@@ -426,6 +432,12 @@ fn main() {
     let mode = mode();
     if mode == b'c' {
         return print_colours(p);
+    }
+    if p.wc != 3 {
+        return print_beyond();
+    }
+    if p.wr != 9 {
+        return print_beyond();
     }
     if mode == b'r' {
         return read_label(p, &list[..n]);

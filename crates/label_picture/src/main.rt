@@ -1,6 +1,6 @@
 // Makes a picture of a label. Standard input has its text, one digit a module, one line a row; standard
 // output gets a PNG, 8 pixels a module, with four white modules around. Argument i is the colour of index
-// i - 1, a number of Table 3 of document 000; a missing one is the index itself. Lines longer than the
+// i - 1, a number of Table 3 of document 002; a missing one is the index itself. Lines longer than the
 // greatest symbol's give no picture.
 //
 // The PNG (ISO/IEC 15948) has indexed colours, the eight of Table 3 in their order, and one stored block of

@@ -5,7 +5,7 @@
 // A read prints document 01's number, the length and the message, for which there is a buffer of 64
 // bytes. A write prints the length of the stream, then the number of test 6, once where there are just
 // as many net bits and once where there is one more, and the net bits with three zeros behind the end
-// mark.
+// mark. No symbol is made, and no work buffer lent.
 use libc::STDIN_FILENO;
 use libc::STDOUT_FILENO;
 ghost use Prim.Native.Nat.{_+_, _≤_, _<_};

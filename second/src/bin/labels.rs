@@ -3,9 +3,10 @@
 //!
 //! `labels write` prints the text of the record on standard input; `labels
 //! read` reads such a text and prints the line `NUMBER PLACE LENGTH REPAIRS
-//! UNMET` and then the message.
+//! UNMET` and then the message. `labels refused NUMBER`, 10 to 13, prints a
+//! text that no writer makes and a reader refuses with this number.
 
-use second::{read, sizes, write, Params};
+use second::{read, sizes, stream, write, Bits, Params, Symbol};
 use std::io::{self, Read, Write};
 
 const SYMBOL: Params = Params {
@@ -38,6 +39,15 @@ fn palettes() -> Vec<u16> {
     list
 }
 
+/// One digit a module, one line a row.
+fn lines_of(matrix: &[u8], columns: usize) -> String {
+    let digits = matrix.iter().map(|&module| char::from(b'0' + module));
+    let text: Vec<char> = digits.collect();
+    text.chunks(columns)
+        .map(|line| line.iter().collect::<String>() + "\n")
+        .collect()
+}
+
 fn text_of(record: &[u8]) -> Result<String, u32> {
     let list = palettes();
     let sizes = sizes(&SYMBOL, &list).map_err(|refusal| refusal.number)?;
@@ -52,12 +62,34 @@ fn text_of(record: &[u8]) -> Result<String, u32> {
     if answer.number != 0 {
         return Err(answer.number);
     }
-    let digits = matrix.iter().map(|&module| char::from(b'0' + module));
-    let text: Vec<char> = digits.collect();
-    let lines = text.chunks(sizes.columns);
-    Ok(lines
-        .map(|line| line.iter().collect::<String>() + "\n")
-        .collect())
+    Ok(lines_of(&matrix, sizes.columns))
+}
+
+/// What stands in the message columns: a stream with its end mark, and for 10 a
+/// 1 in the first spare column; all 0 for 11.
+fn refused_columns(number: &str, net: usize) -> Option<Bits> {
+    let codes = match number {
+        "10" => "00001",
+        "11" => return Some(Bits::zeros(net)),
+        "12" => "00001 11111",
+        "13" => "00001 11111 10",
+        _ => return None,
+    };
+    let mut stream = Bits::new();
+    stream.push_text(codes);
+    let mut columns = stream::with_end_mark(&stream, net);
+    if number == "10" {
+        columns.push(true);
+    }
+    Some(columns)
+}
+
+fn refused_text(number: &str) -> Option<String> {
+    let symbol = Symbol::new(&SYMBOL, &palettes()).ok()?;
+    let sizes = symbol.sizes();
+    let columns = refused_columns(number, sizes.net)?;
+    let matrix = symbol.matrix_of_message_columns(&columns);
+    Some(lines_of(&matrix, sizes.columns))
 }
 
 /// The line of numbers and the message of a text.
@@ -79,16 +111,23 @@ fn reading_of(text: &[u8]) -> Vec<u8> {
     reading
 }
 
+fn input() -> io::Result<Vec<u8>> {
+    let mut bytes = Vec::new();
+    io::stdin().read_to_end(&mut bytes)?;
+    Ok(bytes)
+}
+
 fn main() -> io::Result<()> {
-    let mut input = Vec::new();
-    io::stdin().read_to_end(&mut input)?;
-    let output = match std::env::args().nth(1).as_deref() {
-        Some("write") => match text_of(&input) {
+    let arguments: Vec<String> = std::env::args().skip(1).collect();
+    let words: Vec<&str> = arguments.iter().map(String::as_str).collect();
+    let output = match words.as_slice() {
+        ["write"] => match text_of(&input()?) {
             Ok(text) => text.into_bytes(),
             Err(number) => format!("refused {}\n", number).into_bytes(),
         },
-        Some("read") => reading_of(&input),
-        _ => b"labels write or labels read\n".to_vec(),
+        ["read"] => reading_of(&input()?),
+        ["refused", number] => refused_text(number).unwrap_or_default().into_bytes(),
+        _ => b"labels write, labels read or labels refused NUMBER\n".to_vec(),
     };
     io::stdout().write_all(&output)
 }

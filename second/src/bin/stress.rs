@@ -1,6 +1,7 @@
 //! Compares the proved library with this codec on random cases:
-//! `stress SECONDS [SEED]`, or `stress --case SEED NUMBER` for one case. A seed
-//! and a number fix a case.
+//! `stress SECONDS [SEED]`, `stress --first COUNT SEED` for the first ones of a
+//! seed, or `stress --case SEED NUMBER` for one case. A seed and a number fix a
+//! case.
 
 #[path = "../both.rs"]
 mod both;
@@ -29,14 +30,14 @@ use tally::Tally;
 
 const PROGRESS: Duration = Duration::from_secs(5);
 
-/// Whether all cases of the time agreed.
-fn run(time: Duration, seed: u64) -> bool {
+/// Whether all cases of the time agreed, or the first ones if they take less.
+fn run(time: Duration, first: u64, seed: u64) -> bool {
     println!("seed {seed}, archive {}", proved::archive());
     let start = Instant::now();
     let mut told = start;
     let mut tally = Tally::default();
     let mut difference = None;
-    for number in 0.. {
+    for number in 0..first {
         if start.elapsed() >= time || difference.is_some() {
             break;
         }
@@ -84,8 +85,12 @@ fn agree(arguments: &[&str]) -> Option<bool> {
     let seconds = |text: &str| text.parse().ok().map(Duration::from_secs);
     match arguments {
         ["--case", seed, number] => Some(run_case(seed.parse().ok()?, number.parse().ok()?)),
-        [time] => Some(run(seconds(time)?, clock())),
-        [time, seed] => Some(run(seconds(time)?, seed.parse().ok()?)),
+        ["--first", count, seed] => {
+            let (first, seed) = (count.parse().ok()?, seed.parse().ok()?);
+            Some(run(Duration::MAX, first, seed))
+        }
+        [time] => Some(run(seconds(time)?, u64::MAX, clock())),
+        [time, seed] => Some(run(seconds(time)?, u64::MAX, seed.parse().ok()?)),
         _ => None,
     }
 }
@@ -97,7 +102,9 @@ fn main() {
         Some(true) => {}
         Some(false) => process::exit(1),
         None => {
-            eprintln!("usage: stress SECONDS [SEED] | stress --case SEED NUMBER");
+            eprintln!(
+                "usage: stress SECONDS [SEED] | stress --first COUNT SEED | stress --case SEED NUMBER"
+            );
             process::exit(2);
         }
     }

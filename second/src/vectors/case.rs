@@ -2,7 +2,9 @@
 
 use crate::symbols::Symbols;
 use second::chance::Chance;
-use second::{read, sizes, write, Bits, Params, Symbol};
+use second::geometry::Layout;
+use second::reserved::reserve;
+use second::{read, write, Bits, Params, Symbol};
 
 /// What every buffer is filled with before a call.
 const FILL: u8 = 165;
@@ -18,6 +20,23 @@ impl Lent {
     /// The symbol, where the parameters and the list are legal.
     pub fn symbol(&self) -> Symbol {
         Symbol::new(&self.params, &self.list).expect("a legal symbol")
+    }
+
+    /// C, where neither 1 nor 2 applies.
+    fn capacity(&self) -> Option<usize> {
+        let Lent { params, list } = self;
+        if !params.in_range() {
+            return None;
+        }
+        let mut layout = Layout::with_patterns(params);
+        reserve(&mut layout, list, params.colours).ok()?;
+        Some(layout.data_modules().len() * params.bits_per_module())
+    }
+
+    /// Document 01: programs keep to symbols of C at most 1,047 with wc 3, wr 9.
+    fn within_limit(&self) -> bool {
+        let Params { wc, wr, .. } = self.params;
+        wc == 3 && wr == 9 && self.capacity().map_or(true, |c| c <= 1_047)
     }
 
     pub fn work(&self) -> usize {
@@ -160,17 +179,16 @@ impl Book {
         self.cases
     }
 
-    /// Any call, within what the conformance program can hold.
+    /// Any call, within document 01's limit for programs and what the
+    /// conformance program can hold.
     pub fn call(&mut self, about: &str, lent: &Lent, work: usize, call: Call) {
-        assert!(lent.list.len() <= 3_100 && work <= 65_536);
+        assert!(lent.within_limit() && work <= 53_964);
+        assert!(lent.list.len() <= 3_100);
         let (matrix, message) = match &call {
             Call::Write(matrix, message) => (*matrix, message.len()),
             Call::Read(room, matrix) => (matrix.len(), *room),
         };
         assert!(matrix <= 4_096 && message <= 1_024);
-        if let Ok(sizes) = sizes(&lent.params, &lent.list) {
-            assert!(sizes.capacity <= 1_047 && lent.params.wc == 3 && lent.params.wr == 9);
-        }
         self.cases.push(Case {
             about: about.to_string(),
             lent: lent.clone(),

@@ -10,7 +10,7 @@ pub fn message_matrix(symbol: &Symbol, message: &[u8]) -> Vec<u8> {
     symbol.matrix_of_word(&message_word(symbol, message))
 }
 
-fn message_word(symbol: &Symbol, message: &[u8]) -> Bits {
+pub fn message_word(symbol: &Symbol, message: &[u8]) -> Bits {
     stream_word(symbol, &stream::write(message))
 }
 

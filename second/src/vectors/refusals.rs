@@ -5,10 +5,11 @@ use crate::symbols::Symbols;
 use second::geometry::side_size;
 use second::Params;
 
-/// A parameter put out of range, and words for it.
+/// A parameter put out of range, and words for it. wc and wr stay 3 and 9, as
+/// in every program; the random cases have others.
 type Fault = (&'static str, fn(&mut Params));
 
-const FAULTS: [Fault; 32] = [
+const FAULTS: [Fault; 28] = [
     ("the kind is 2", |p| p.kind = 2),
     ("the kind is 4294967295", |p| p.kind = u32::MAX),
     ("the horizontal side-version is 0", |p| p.horizontal = 0),
@@ -20,7 +21,10 @@ const FAULTS: [Fault; 32] = [
         p.vertical = 0x4000_0001
     }),
     ("there are 0 colours", |p| p.colours = 0),
+    ("there are 3 colours", |p| p.colours = 3),
     ("there are 5 colours", |p| p.colours = 5),
+    ("there are 6 colours", |p| p.colours = 6),
+    ("there are 7 colours", |p| p.colours = 7),
     ("there are 9 colours", |p| p.colours = 9),
     ("there are 260 colours", |p| p.colours = 260),
     ("black is 8", |p| p.black = 8),
@@ -35,26 +39,13 @@ const FAULTS: [Fault; 32] = [
     ("black is cyan", |p| p.black = p.cyan),
     ("cyan is yellow", |p| p.cyan = p.yellow),
     ("yellow is black", |p| p.yellow = p.black),
-    ("wc is 2", |p| p.wc = 2),
-    ("wc is 9", |p| p.wc = 9),
-    ("wr is 3", |p| p.wr = 3),
-    ("wr is 10", |p| p.wr = 10),
-    ("wr is 265", |p| p.wr = 265),
-    ("wc and wr are both 8", |p| {
-        p.wc = 8;
-        p.wr = 8
-    }),
-    ("wc is 5 and wr 4", |p| {
-        p.wc = 5;
-        p.wr = 4
-    }),
     ("the mask is 8", |p| p.mask = 8),
     ("the mask is huge", |p| p.mask = 0x1_0000),
     ("the turn is 2", |p| p.turn = 2),
     ("the turn is 4294967295", |p| p.turn = u32::MAX),
 ];
 
-/// The greatest work buffer the cases need.
+/// The greatest work buffer of a program.
 const WORK: usize = 53_964;
 
 fn base() -> Params {
@@ -220,21 +211,20 @@ fn capacities(book: &mut Book) {
         let call = Call::Write(441, Vec::new());
         book.call(&format!("write refused 3: {about}"), &lent, WORK, call);
     }
-    let params = book.chance.params(0, (1, 1), 8);
-    let lent = book.chance.lent(Params { wr: 4, ..params }, 1);
-    let call = Call::Read(9, vec![0; 441]);
-    book.call("read refused 3: C is 3 and wr 4", &lent, WORK, call);
-    let params = book.chance.params(1, (6, 5), 8);
-    let lent = book.chance.lent(params, 1_366);
-    let about = "write refused 3: C is 4,098, the least above 4,096";
-    book.call(about, &lent, WORK, Call::Write(1_517, b"much".to_vec()));
-    let params = book.chance.params(0, (6, 6), 8);
-    let about = "write refused 3: C is 4,734";
-    let call = Call::Write(1_681, b"much".to_vec());
-    book.call(about, &bare(params), WORK, call);
-    let params = book.chance.params(1, (32, 32), 4);
-    let about = "read refused 3: the greatest symbol, with an empty matrix";
-    book.call(about, &bare(params), 65_536, Call::Read(1_024, vec![]));
+    for (about, colours, data_modules) in [
+        ("C is 3 and wr 9", 8, 1),
+        ("C is 8 and wr 9, secondary", 4, 4),
+    ] {
+        let kind = u32::from(colours == 4);
+        let params = book.chance.params(kind, (1, 1), colours);
+        let lent = book.chance.lent(params, data_modules);
+        let call = Call::Read(9, vec![0; 441]);
+        book.call(&format!("read refused 3: {about}"), &lent, WORK, call);
+    }
+    let params = book.chance.params(1, (6, 1), 8);
+    let lent = book.chance.lent(params, 2);
+    let about = "read refused 3: C is 6, with an empty matrix and no work buffer";
+    book.call(about, &lent, 0, Call::Read(1_024, vec![]));
 }
 
 fn matrix_lengths(book: &mut Book) {
@@ -271,9 +261,9 @@ fn work_lengths(book: &mut Book) {
         let about = format!("read: C {capacity} with {} of {work} work bytes", work - 1);
         book.call(&about, &lent, work - 1, Call::Read(7, vec![0; 441]));
     }
-    let lent = book.chance.usual();
+    let lent = book.chance.with_capacity(676);
     let about = "write: a work buffer longer than the least is zero to its end";
-    book.call(about, &lent, 65_536, Call::Write(441, b"long".to_vec()));
+    book.call(about, &lent, WORK, Call::Write(441, b"long".to_vec()));
 }
 
 fn first_of_several(book: &mut Book) {
@@ -294,12 +284,12 @@ fn first_of_several(book: &mut Book) {
     lent.params.turn = 7;
     let about = "write: 1, 2, 4, 5 and 6 apply";
     book.call(about, &lent, 1, Call::Write(1, message));
-    let params = book.chance.params(0, (32, 31), 8);
+    // C is 8, for which 64 work bytes would be asked
+    let params = book.chance.params(0, (1, 1), 4);
+    let mut lent = book.chance.lent(params, 4);
     let about = "write: 3, 4 and 5 apply";
-    let call = Call::Write(4_096, b"x".to_vec());
-    book.call(about, &bare(params), 100, call);
-    let list = vec![146, 1, 0];
+    book.call(about, &lent, 63, Call::Write(440, b"x".to_vec()));
+    lent.list[0] = 22;
     let about = "read: 2, 3, 4 and 5 apply";
-    let call = Call::Read(3, vec![9; 3]);
-    book.call(about, &Lent { params, list }, 100, call);
+    book.call(about, &lent, 63, Call::Read(3, vec![9; 3]));
 }

@@ -1,6 +1,7 @@
 //! Undamaged matrices whose streams go through every mode and every ending.
 
 use crate::case::{Book, Call, Lent};
+use crate::symbols::Symbols;
 use second::stream::{self, extended};
 use second::Bits;
 
@@ -310,8 +311,8 @@ fn rooms(book: &mut Book) {
     read_into(book, "FNC1 behind an overfull buffer", &codes, 4);
     let codes = [&[TO_LOWERCASE][..], &ten, &[END_OF_MESSAGE, (0, 9)]].concat();
     read_into(book, "end of message in an overfull buffer", &codes, 4);
-    let lent = book.usual_for(&bits(&ten));
+    let lent = book.chance.with_capacity(942);
     let matrix = matrix(&lent, &bits(&ten));
     let about = "read: more work bytes and room than needed";
-    book.call(about, &lent, 60_000, Call::Read(1_024, matrix));
+    book.call(about, &lent, 53_964, Call::Read(1_024, matrix));
 }

@@ -2,8 +2,9 @@
 
 use crate::case::{Book, Lent};
 use crate::symbols::Symbols;
+use second::generator::{interleaving, Generator, INTERLEAVING_SEED};
 use second::geometry::Layout;
-use second::{stream, Params};
+use second::{stream, Bits, Params, Symbol};
 
 pub fn add(book: &mut Book) {
     masks(book);
@@ -124,6 +125,7 @@ fn alignment_patterns(book: &mut Book) {
         (1, (6, 1), 8, 300),
         (0, (10, 1), 4, 520),
         (1, (1, 10), 4, 523),
+        (1, (6, 2), 4, 523),
     ];
     for (kind, sides, colours, data_modules) in shapes {
         shape(book, kind, sides, colours, data_modules);
@@ -157,13 +159,34 @@ fn shape(book: &mut Book, kind: u32, sides: (u32, u32), colours: u32, data_modul
     book.read(&about, &lent, matrix);
 }
 
+/// Whether bits are interleaved in another way where no place is rounded.
+fn shows_rounding(sequence: &Bits) -> bool {
+    let unrounded = |draw, left| ((u128::from(draw) * left as u128) >> 32) as usize;
+    let mut sources: Vec<usize> = (0..sequence.len()).collect();
+    Generator::new(INTERLEAVING_SEED).shuffle_by(&mut sources, unrounded);
+    let rounded = interleaving(sequence.len());
+    let mut places = rounded.into_iter().zip(sources);
+    places.any(|(one, other)| sequence.get(one) != sequence.get(other))
+}
+
+/// A message, as long as fits, with which rounding shows in a symbol.
+fn showing_message(book: &mut Book, symbol: &Symbol) -> Vec<u8> {
+    for _ in 0..1_000 {
+        let message = book.chance.bytes(stream::longest(symbol.sizes().net));
+        if shows_rounding(&symbol.stuffed(&crate::damage::message_word(symbol, &message))) {
+            return message;
+        }
+    }
+    panic!("rounding does not show");
+}
+
 /// Capacities where a place drawn in single precision is not the exact one.
 fn rounding(book: &mut Book) {
     for (colours, sides, data_modules) in [(8, (1, 1), 161), (8, (1, 1), 314), (4, (2, 2), 512)] {
         let params = book.chance.params(0, sides, colours);
         let lent = book.chance.lent(params, data_modules);
         let capacity = lent.symbol().sizes().capacity;
-        let message = book.chance.bytes(30);
+        let message = showing_message(book, &lent.symbol());
         let about = format!("write: C {capacity}, where rounding moves a place");
         book.write(&about, &lent, &message);
         let matrix = crate::damage::message_matrix(&lent.symbol(), &message);

@@ -1,4 +1,4 @@
--- `label_codec::main` is safe: the list ends inside its buffer. Assumes nothing.
+-- `label_codec::main` is safe: the list ends inside its buffer, and only wc 3 and wr 9 go on. Assumes nothing.
 use native.Mathlib.Omega.{arith}
 use lib.ListN.{length-take}
 use borrow.Author.Needs.{needs}
@@ -23,6 +23,18 @@ print-colours-requires c κs = search needs
 returns : tie.Need-returns
 returns c = search needs
 
+print-beyond-requires : tie.Need-print-beyond-requires
+print-beyond-requires c κs = search needs
+
+returns-2 : tie.Need-returns-2
+returns-2 c = search needs
+
+print-beyond-requires-2 : tie.Need-print-beyond-requires-2
+print-beyond-requires-2 c κs = search needs
+
+returns-3 : tie.Need-returns-3
+returns-3 c = search needs
+
 array-share-prefix-list : tie.Need-array-share-prefix-list
 array-share-prefix-list c = search needs
 
@@ -32,8 +44,8 @@ slice-aggregate-read-label c = simp length-take (omega arith)
 read-label-requires : tie.Need-read-label-requires
 read-label-requires c κs = search needs
 
-returns-2 : tie.Need-returns-2
-returns-2 c = search needs
+returns-4 : tie.Need-returns-4
+returns-4 c = search needs
 
 array-share-prefix-list-2 : tie.Need-array-share-prefix-list-2
 array-share-prefix-list-2 c = search needs
@@ -44,8 +56,8 @@ slice-aggregate-write-label c = simp length-take (omega arith)
 write-label-requires : tie.Need-write-label-requires
 write-label-requires c κs = search needs
 
-returns-3 : tie.Need-returns-3
-returns-3 c = search needs
+returns-5 : tie.Need-returns-5
+returns-5 c = search needs
 
 pub main-spec : {M : Type 1} → statement M
 main-spec =
@@ -57,11 +69,15 @@ main-spec =
     mode-requires
     print-colours-requires
     returns
+    print-beyond-requires
+    returns-2
+    print-beyond-requires-2
+    returns-3
     array-share-prefix-list
     slice-aggregate-read-label
     read-label-requires
-    returns-2
+    returns-4
     array-share-prefix-list-2
     slice-aggregate-write-label
     write-label-requires
-    returns-3)
+    returns-5)
