@@ -31,7 +31,7 @@ use Rattle.calls.specs.Answers.{answer, noCounts, counted, refused, done, count
 use Rattle.calls.specs.Tests.{Row, firstOf, stuckWord, sizeRows, frontRows, writeRows, earlyRows, streamRows, acceptedRows, isLegal}
 use Rattle.calls.specs.Write.{writeAnswer, matrixAfterWrite, workAfter}
 use Rattle.calls.specs.Read.{messageInNet, messageInAccepted, messageIn, frontAfter, answerFromAccepted, countsOf, answerFromReceived, readAnswer, readRows}
-use Rattle.call_laws.proofs.Tests.{Each, numbersOf, first-append, first-map, first-keeps}
+use Rattle.call_laws.proofs.Tests.{Each, each-all, numbersOf, first-append, first-map, first-keeps}
 use Rattle.call_laws.proofs.Stages.{read-keeps}
 
 -- ---- document 01, "Numbers returned"
@@ -121,6 +121,14 @@ pub read-length : (p : Params) (l matrix : List ℕ) (work room : ℕ)
 read-length p l matrix work room =
     let m : ℕ = length (messageIn p l matrix) in
     never-zero (λ (a : ReadAnswer). (a .length ≡ m) × (m ≤ room)) p l matrix work room (λ fits. (refl, fits))
+
+-- Every answer's length fits in the message buffer.
+pub read-fits : (p : Params) (l matrix : List ℕ) (work room : ℕ) → readAnswer p l matrix work room .length ≤ room
+read-fits p l matrix work room =
+    let Q : ReadAnswer → Type 0 = λ a. a .length ≤ room in
+    read-keeps p l matrix work room Q (each-all (λ r. r .test ≡ true → Q (refused (r .number) (r .place))) (λ r t. omega arith) _)
+    (λ e. each-all (λ r. r .test ≡ true → Q (counted (countsOf (sizesFor p l) (receivedWord p l matrix)) (r .number) (r .place))) (λ r t. omega arith) _)
+    (λ e fits. fits)
 
 -- The message of any matrix has at most Pn bytes.
 pub message-few : (p : Params) (l matrix : List ℕ) → length (messageIn p l matrix) ≤ sizesFor p l .net

@@ -23,11 +23,12 @@ use Rattle.symbology.proofs.Ranges.{clash}
 use Rattle.laws.proofs.Ranges.{by}
 use Rattle.laws.proofs.Net.{net-back, net-some, any-zeros}
 use Rattle.calls.specs.declared.Counts.{Counts}
+use Rattle.calls.specs.declared.StreamAnswer.{StreamAnswer}
 use Rattle.calls.specs.declared.ReadAnswer.{ReadAnswer}
 use Rattle.calls.specs.Answers.{counted, refused, done, fromStream, streamRefused, streamDone}
 use Rattle.calls.specs.Tests.{Row, firstOf, passes, spareOne, stuckWord, sizeRows, frontRows, earlyRows, streamRows, acceptedRows, isLegal, reachesChecks}
 use Rattle.calls.specs.Read.{messageInNet, messageInAccepted, streamAnswer, answerFromAccepted, countsOf, answerFromReceived, readAnswer}
-use Rattle.call_laws.proofs.Tests.{Each, each-map, each-listed, numbersOf, pass-fails, pass-front, pass-behind, first-hit, first-miss, first-none, first-passed, first-keeps, first-map, Legal, legal}
+use Rattle.call_laws.proofs.Tests.{Each, each-all, each-map, each-listed, numbersOf, pass-fails, pass-front, pass-behind, first-hit, first-miss, first-none, first-passed, first-keeps, first-map, Legal, legal}
 
 -- ---- from the net bits
 
@@ -41,6 +42,14 @@ stream-table net c room = first-map streamRefused (fromStream c) (streamRows net
 pub stream-fits : (net : List ℕ) (room : ℕ) → passes (streamRows net room) ≡ true → length (messageInNet net) ≤ room
 unfolding streamRows Each
 stream-fits net room e = ltb-false room (length (messageInNet net)) (pass-fails (streamRows net room) e .1 .1 .1 .0)
+
+-- so does every length, which is 0 on refusal
+pub stream-length-fits : (net : List ℕ) (room : ℕ) → streamAnswer net room .length ≤ room
+unfolding streamAnswer
+stream-length-fits net room =
+    let Q : StreamAnswer → Type 0 = λ a. a .length ≤ room in
+    first-keeps streamRefused Q (streamRows net room) (streamDone (length (messageInNet net)))
+    (each-all (λ r. r .test ≡ true → Q (streamRefused (r .number) (r .place))) (λ r t. omega arith) (streamRows net room)) (stream-fits net room)
 
 module _ {stream message : List ℕ} (k : ReadsAs stream message) (n : ℕ) where
   abbrev net : List ℕ

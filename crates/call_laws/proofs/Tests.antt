@@ -32,6 +32,12 @@ unfoldable pub Each : (Row → Type 0) → List Row → Type 0
 Each P [] = Unit {0}
 Each P (r ∷ rs) = P r × Each P rs
 
+-- a fact of every row there is
+pub each-all : (P : Row → Type 0) → ((r : Row) → P r) → (rs : List Row) → Each P rs
+unfolding Each
+each-all P f [] = tt
+each-all P f (r ∷ rs) = (f r, each-all P f rs)
+
 -- what follows from a fact of a row
 pub each-map : (P Q : Row → Type 0) → ((r : Row) → P r → Q r) → (rs : List Row) → Each P rs → Each Q rs
 unfolding Each

@@ -249,19 +249,14 @@ fn area(columns: usize, rows: usize) -> usize
     columns * rows
 }
 
-// K of a symbol with wc 3 and wr 9.
-fn checks(capacity: usize) -> usize {
-    capacity / 9 * 3
-}
-
-// Prints the numbers of an answer and of its symbol.
-fn print_answer(p: Params, list: &[u16], answer: ReadAnswer, modules: usize) {
+// Prints the numbers of an answer to so many bytes and modules, and of its symbol.
+fn print_answer(p: Params, list: &[u16], answer: ReadAnswer, bytes: usize, modules: usize) {
     let sizes = jabcode::sizes(p, list);
     print_numbers(
         &[
             answer.number as usize,
             answer.place,
-            answer.length,
+            bytes,
             modules,
             answer.repairs,
             answer.unmet,
@@ -270,7 +265,7 @@ fn print_answer(p: Params, list: &[u16], answer: ReadAnswer, modules: usize) {
             sizes.capacity,
             sizes.net,
             sizes.work,
-            checks(sizes.capacity),
+            sizes.checks,
         ],
     );
 }
@@ -306,14 +301,8 @@ fn write_record(p: Params, list: &[u16], record: &[u8], matrix: &mut [u8])
     let mut work = [0u8; 53964];
     let answer = jabcode::write(p, list, record, matrix, &mut work);
     if answer.number != 0 {
-        let refusal = ReadAnswer {
-            number: answer.number,
-            place: answer.place,
-            length: record.len(),
-            repairs: 0,
-            unmet: 0,
-        };
-        return print_answer(p, list, refusal, matrix.len());
+        let refusal = calls::refused(answer.number, answer.place);
+        return print_answer(p, list, refusal, record.len(), matrix.len());
     }
     as_digits(matrix);
     print_rows(matrix, side(p.horizontal));
@@ -410,7 +399,7 @@ fn read_label(p: Params, list: &[u16])
     let mut message = io::buffer();
     let modules = read_modules(&mut matrix);
     let answer = jabcode::read(p, list, &matrix[..modules], &mut work, &mut message);
-    print_answer(p, list, answer, modules);
+    print_answer(p, list, answer, answer.length, modules);
     let length = answer.length;
     io::write_all(STDOUT_FILENO, &message[..length]);
 }

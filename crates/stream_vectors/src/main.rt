@@ -11,7 +11,7 @@ use libc::STDOUT_FILENO;
 ghost use Prim.Native.Nat.{_+_, _≤_, _<_};
 ghost use mathlib.Core.Path.{_≡_};
 ghost use lib.ListN.{length};
-ghost use Rattle.symbology.specs.Stream.{byteStream};
+ghost use Rattle.symbology.specs.Stream.{streamOf};
 
 fn print_number(n: usize) {
     io::print_decimal(STDOUT_FILENO, n as u64);
@@ -53,7 +53,7 @@ fn read_line(line: &[u8], bits: &mut [u8], message: &mut [u8])
     requires { ⌜ length (now line) ≤ length (now bits) ⌝ }
 {
     let n = gather(line, bits);
-    let answer = stream_reader::read_net(&bits[..n], 0, 0, message);
+    let answer = stream_reader::read_net(&bits[..n], message.len(), message);
     let end = answer.length;
     print_message(answer.number, &message[..end]);
 }
@@ -77,7 +77,7 @@ fn print_test_6(message: &[u8], net: usize)
 }
 
 fn print_net(message: &[u8], net: &mut [u8])
-    requires { ⌜ length (byteStream (now message)) < length (now net) ⌝ }
+    requires { ⌜ length (streamOf (now message)) < length (now net) ⌝ }
 {
     stream_writer::write_net(message, net);
     print_bits(net);
@@ -87,7 +87,7 @@ fn print_net(message: &[u8], net: &mut [u8])
 // The length of a message's stream, which is at most 32 bits a byte.
 fn stream_length(message: &[u8]) -> usize
     requires { ⌜ length (now message) ≤ 1024 ⌝ }
-    ensures { λ r. ⌜ (r ≡ length (byteStream (now (message .entry)))) × (r ≤ 32768) ⌝ }
+    ensures { λ r. ⌜ (r ≡ length (streamOf (now (message .entry)))) × (r ≤ 32768) ⌝ }
 {
     stream_writer::stream_length(message)
 }

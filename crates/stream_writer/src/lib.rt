@@ -15,9 +15,9 @@ const LONGEST_RUN: usize = 8206;
 
 // ---- lengths
 
-// The bits of a message's stream. A run has 7 bits of switches, a count of 4 bits or, from 16 bytes
+// The bits of a message's byte-mode stream. A run has 7 bits of switches, a count of 4 bits or, from 16 bytes
 // on, of 4 and 13, and 8 bits for each byte.
-pub fn stream_length(message: &[u8]) -> usize
+fn byte_length(message: &[u8]) -> usize
     requires { ⌜ length (now message) < 2 ^ 32 ⌝ }
     ensures { λ r. ⌜ r ≡ length (byteStream (now (message .entry))) ⌝ }
 {
@@ -87,8 +87,8 @@ fn run_end(from: usize, n: usize) -> usize
 
 // ---- the stream in byte mode
 
-// Stores the stream of a message in front of the buffer and answers its length.
-pub fn write_stream(message: &[u8], out: &mut [u8]) -> usize
+// Stores the runs of a message in front of the buffer and answers their length.
+fn write_runs(message: &[u8], out: &mut [u8]) -> usize
     requires { ⌜ length (byteStream (now message)) ≤ length (now out) ⌝ }
     ensures { λ r. ⌜ StoredAt (byteStream (now (message .entry))) 0 (now (out .entry)) (now (out .exit)) r ⌝ }
 {
@@ -105,19 +105,19 @@ pub fn write_stream(message: &[u8], out: &mut [u8]) -> usize
 // ---- the stream that is chosen, and its end mark
 
 // The bits of the stream that a message is written as.
-fn chosen_length(message: &[u8]) -> usize
+pub fn stream_length(message: &[u8]) -> usize
     requires { ⌜ length (now message) < 2 ^ 32 ⌝ }
     ensures { λ r. ⌜ r ≡ length (streamOf (now (message .entry))) ⌝ }
 {
-    stream_length(message)
+    byte_length(message)
 }
 
 // Stores that stream in front of the buffer and answers its length.
-fn write_chosen(message: &[u8], out: &mut [u8]) -> usize
+pub fn write_stream(message: &[u8], out: &mut [u8]) -> usize
     requires { ⌜ length (streamOf (now message)) ≤ length (now out) ⌝ }
     ensures { λ r. ⌜ StoredAt (streamOf (now (message .entry))) 0 (now (out .entry)) (now (out .exit)) r ⌝ }
 {
-    write_stream(message, out)
+    write_runs(message, out)
 }
 
 // Test 6: the stream of a message and its end mark exceed the net bits. A message of more bytes than
@@ -129,7 +129,7 @@ pub fn exceeds_net(message: &[u8], net: usize) -> bool
     if net < message.len() {
         return true;
     }
-    net < chosen_length(message) + 1
+    net < stream_length(message) + 1
 }
 
 // Stores the net bits of a message: its stream, a 1, then zeros to the end of the buffer.
@@ -137,7 +137,7 @@ pub fn write_net(message: &[u8], net: &mut [u8])
     requires { ⌜ length (streamOf (now message)) < length (now net) ⌝ }
     ensures { λ _. ⌜ now (net .exit) ≡ withEndMark (length (now (net .entry))) (streamOf (now (message .entry))) ⌝ }
 {
-    let end = write_chosen(message, net);
+    let end = write_stream(message, net);
     net[end] = 1;
     lent::clear(net, end + 1, net.len());
 }

@@ -7,19 +7,14 @@ use lib.ListN.{length-take}
 use Rattle.symbology.specs.declared.Params.{Params}
 use Rattle.calls.specs.declared.ReadAnswer.{ReadAnswer}
 use Rattle.calls.specs.Read.{readAnswer}
-use Rattle.call_laws.proofs.Stages.{read-keeps}
+use Rattle.call_laws.proofs.Answers.{read-fits}
 use borrow.Author.Needs.{needs}
 use Rattle.label_codec.proofs.read_label.Statement.{statement}
 use Rattle.label_codec.proofs.read_label.Tie as tie
 
--- a message that is read fits its buffer
+-- a message that is read fits in its buffer
 fits : {r : ReadAnswer} (p : Params) (l matrix : List ℕ) (work : ℕ) {room : ℕ} → r ≡ readAnswer p l matrix work room → r .length ≤ room
-fits p l matrix work {room} e =
-    omega (
-      arith,
-      ap (λ (a : ReadAnswer). a .length) e,
-      read-keeps (λ (a : ReadAnswer). a .length ≤ room) p l matrix work room (λ k place low high no6 at. omega arith) (λ k low high. omega arith) (λ short. short),
-    )
+fits p l matrix work {room} e = omega (arith, ap (λ (a : ReadAnswer). a .length) e, read-fits p l matrix work room)
 
 large-buffer-requires : tie.Need-large-buffer-requires
 large-buffer-requires c κs = search needs
@@ -52,10 +47,10 @@ print-answer-requires : tie.Need-print-answer-requires
 print-answer-requires c κs = search needs
 
 array-share-prefix-message : tie.Need-array-share-prefix-message
-array-share-prefix-message c = omega (arith, fits _ _ _ _ (c .before .before .before .read .ensures .0))
+array-share-prefix-message c = omega (arith, fits _ _ _ _ (c .before .before .before .read .ensures .answer-is))
 
 slice-aggregate-write-all : tie.Need-slice-aggregate-write-all
-slice-aggregate-write-all c = simp length-take (omega (arith, fits _ _ _ _ (c .before .before .before .before .read .ensures .0)))
+slice-aggregate-write-all c = simp length-take (omega (arith, fits _ _ _ _ (c .before .before .before .before .read .ensures .answer-is)))
 
 write-all-requires : tie.Need-write-all-requires
 write-all-requires c κs = search needs

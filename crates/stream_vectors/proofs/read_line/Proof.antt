@@ -4,17 +4,16 @@ use mathlib.Core.Path.{_≡_, ap}
 use mathlib.Core.List.{List}
 use native.Mathlib.Omega.{arith}
 use lib.ListN.{length-take}
-use Rattle.calls.specs.declared.ReadAnswer.{ReadAnswer}
-use Rattle.calls.specs.Read.{answerFromNet}
-use Rattle.call_laws.proofs.Stages.{net-keeps}
+use Rattle.calls.specs.declared.StreamAnswer.{StreamAnswer}
+use Rattle.calls.specs.Read.{streamAnswer}
+use Rattle.call_laws.proofs.Stages.{stream-length-fits}
 use borrow.Author.Needs.{needs}
 use Rattle.stream_vectors.proofs.read_line.Statement.{statement}
 use Rattle.stream_vectors.proofs.read_line.Tie as tie
 
 -- a message that is read fits its buffer
-fits : {r : ReadAnswer} (net : List ℕ) {room : ℕ} → r ≡ answerFromNet net 0 0 room → r .length ≤ room
-fits net {room} e =
-    omega (arith, ap (λ (a : ReadAnswer). a .length) e, net-keeps (λ (a : ReadAnswer). a .length ≤ room) net 0 0 room (λ k low high. omega arith) (λ long. long))
+fits : {r : StreamAnswer} (net : List ℕ) {room : ℕ} → r ≡ streamAnswer net room → r .length ≤ room
+fits net {room} e = omega (arith, ap (λ (a : StreamAnswer). a .length) e, stream-length-fits net room)
 
 gather-requires : tie.Need-gather-requires
 gather-requires c κs = search needs
@@ -29,10 +28,10 @@ read-net-requires : tie.Need-read-net-requires
 read-net-requires c κs = search needs
 
 slice-reshare-prefix-print-message : tie.Need-slice-reshare-prefix-print-message
-slice-reshare-prefix-print-message c = omega (arith, fits _ (c .before .before .read-net .ensures .0))
+slice-reshare-prefix-print-message c = omega (arith, fits _ (c .before .before .read-net .ensures .answer-is))
 
 slice-aggregate-print-message : tie.Need-slice-aggregate-print-message
-slice-aggregate-print-message c = simp length-take (omega (arith, fits _ (c .before .before .before .read-net .ensures .0)))
+slice-aggregate-print-message c = simp length-take (omega (arith, fits _ (c .before .before .before .read-net .ensures .answer-is)))
 
 print-message-requires : tie.Need-print-message-requires
 print-message-requires c κs = search needs

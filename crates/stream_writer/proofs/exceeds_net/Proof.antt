@@ -16,14 +16,14 @@ returns c =
     let a = c .before .before .args in
     sym (lt-ltb (a .net) (suc (length (streamOf (a .message .now)))) (omega (arith, chosen-bounds (a .message .now))))
 
-chosen-length-requires : tie.Need-chosen-length-requires
-chosen-length-requires c κs = search needs
+stream-length-requires : tie.Need-stream-length-requires
+stream-length-requires c κs = search needs
 
 add-result : tie.Need-add-result
 add-result c = omega (arith, chosen-bounds (c .before .before .before .args .message .now))
 
 returns-2 : tie.Need-returns-2
-returns-2 c = ap (ltb (c .before .before .before .args .net)) (omega (arith, c .chosen-length .ensures))
+returns-2 c = ap (ltb (c .before .before .before .args .net)) (omega (arith, c .stream-length .ensures))
 
 pub exceeds-net-spec : {M : Type 1} → statement M
-exceeds-net-spec = tie.close (tie.spec returns chosen-length-requires add-result returns-2)
+exceeds-net-spec = tie.close (tie.spec returns stream-length-requires add-result returns-2)

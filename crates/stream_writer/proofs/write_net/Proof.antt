@@ -10,8 +10,8 @@ use Rattle.stream_writer.proofs.Net.{net-stored}
 use Rattle.stream_writer.proofs.write_net.Statement.{statement}
 use Rattle.stream_writer.proofs.write_net.Tie as tie
 
-write-chosen-requires : tie.Need-write-chosen-requires
-write-chosen-requires c κs = search needs
+write-stream-requires : tie.Need-write-stream-requires
+write-stream-requires c κs = search needs
 
 slice-write-net : tie.Need-slice-write-net
 slice-write-net c = search needs
@@ -21,13 +21,13 @@ add-clear c = search needs
 
 clear-requires : tie.Need-clear-requires
 clear-requires c κs =
-    let w = c .before .before .before .write-chosen in
+    let w = c .before .before .before .write-stream in
     simp length-set (omega (arith, w .ensures .place, stored-kept (w .ensures)))
 
 returns : tie.Need-returns
 returns c =
     let s = c .before .before .before .before .before .before .before .before .before .before in
-    net-stored (streamOf (s .args .message .now)) (s .pre) (c .before .before .before .before .before .before .write-chosen .ensures) (c .before .before .clear .ensures)
+    net-stored (streamOf (s .args .message .now)) (s .pre) (c .before .before .before .before .before .before .write-stream .ensures) (c .before .before .clear .ensures)
 
 same-length : tie.Need-same-length
 same-length c =
@@ -37,4 +37,4 @@ same-length c =
 pub write-net-spec : {M : Type 1} → statement M
 write-net-spec =
     tie.close
-    (tie.spec write-chosen-requires slice-write-net add-clear clear-requires same-length returns)
+    (tie.spec write-stream-requires slice-write-net add-clear clear-requires same-length returns)
