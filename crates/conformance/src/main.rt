@@ -9,8 +9,8 @@
 // matrix, at most 4,096; W that of the work buffer, at most 53,964; n that of the message and R that of
 // the message buffer, each at most 1,024. A parameter has at most 32 bits, a number of the list 16 and
 // one of the message or the matrix 8. Document 01: programs keep to symbols of C at most 1,047 with wc 3,
-// wr 9; of these, 53,964 work bytes pass test 5. What a call stores to is filled with the byte 165 before.
-// Each case prints one line:
+// wr 9: at most 53,964 work bytes, with which no greater C passes test 5. What a call stores to is filled
+// with the byte 165 before. Each case prints one line:
 //
 //     write NUMBER PLACE WORK MATRIX
 //     read NUMBER PLACE LENGTH REPAIRS UNMET WORK REST BYTES

@@ -12,9 +12,9 @@
 // work bytes and checks, which are 0 with 1, 2 and 3. `colours` prints how many colours there are and the
 // indices of black, cyan and yellow.
 //
-// Document 01: programs keep to symbols of C at most 1,047 with wc 3, wr 9. Another wc or wr is refused here,
-// with a line of 100, which is no number of document 01, and eleven zeros. The work buffer has 53,964
-// bytes: with wc 3 and wr 9 just the symbols of C at most 1,047 pass test 5.
+// Document 01: programs keep to symbols of C at most 1,047 with wc 3, wr 9: at most 53,964 work bytes. Another
+// wc or wr is refused with the line `100` and eleven zeros; 100 is no number of document 01. The work buffer
+// has 53,964 bytes, with which no greater C passes test 5.
 use libc::STDIN_FILENO;
 use libc::STDOUT_FILENO;
 use symbology::Params;
