@@ -117,10 +117,13 @@ fn put_short(out: &mut [u8], at: usize, n: usize) -> usize
     ensures { λ r. ⌜ StoredAt (decimal n) at (now (out .entry)) (now (out .exit)) r ⌝ }
 {
     if n < 10 {
-        return pieces::put(out, at, digit(n));
+        pieces::put(out, at, digit(n));
+        return at + 1;
     }
-    let next = pieces::put(out, at, digit(n / 10));
-    pieces::put(out, next, digit(n % 10))
+    pieces::put(out, at, digit(n / 10));
+    let next = at + 1;
+    pieces::put(out, next, digit(n % 10));
+    next + 1
 }
 
 // A number of up to three digits.
@@ -132,7 +135,8 @@ fn put_decimal(out: &mut [u8], at: usize, n: usize) -> usize
         return put_short(out, at, n);
     }
     let next = put_short(out, at, n / 10);
-    pieces::put(out, next, digit(n % 10))
+    pieces::put(out, next, digit(n % 10));
+    next + 1
 }
 
 fn put_number_line(out: &mut [u8], at: usize, n: usize) -> usize
@@ -140,7 +144,8 @@ fn put_number_line(out: &mut [u8], at: usize, n: usize) -> usize
     ensures { λ r. ⌜ StoredAt (numberLine n) at (now (out .entry)) (now (out .exit)) r ⌝ }
 {
     let next = put_decimal(out, at, n);
-    pieces::put(out, next, 10)
+    pieces::put(out, next, 10);
+    next + 1
 }
 
 fn wide(b: u8) -> usize
@@ -160,8 +165,8 @@ fn put_cores(out: &mut [u8], at: usize, version: usize) -> usize
     let mut i = 1;
     while i < n {
         let core = wide(row.at[i]);
-        let space = pieces::put(out, next, 32);
-        next = put_decimal(out, space, core);
+        pieces::put(out, next, 32);
+        next = put_decimal(out, next + 1, core);
         i += 1;
     }
     next
@@ -172,18 +177,19 @@ fn put_cores_line(out: &mut [u8], at: usize, version: usize) -> usize
     requires { ⌜ (at < 60000) × (1 ≤ version) × (version ≤ 32) ⌝ }
     ensures { λ r. ⌜ StoredAt (coresLine (coresOf version)) at (now (out .entry)) (now (out .exit)) r ⌝ }
 {
-    let first = pieces::put(out, at, 52);
-    let next = put_cores(out, first, version);
-    pieces::put(out, next, 10)
+    pieces::put(out, at, 52);
+    let next = put_cores(out, at + 1, version);
+    pieces::put(out, next, 10);
+    next + 1
 }
 
 fn put_text(out: &mut [u8], text: &[u8]) -> usize
-    requires { ⌜ length (now text) < 65536 ⌝ }
     ensures { λ r. ⌜ StoredAt (now (text .entry)) 0 (now (out .entry)) (now (out .exit)) r ⌝ }
 {
     let mut at = 0;
     while at < text.len() {
-        at = pieces::put(out, at, text[at]);
+        pieces::put(out, at, text[at]);
+        at += 1;
     }
     at
 }

@@ -26,6 +26,10 @@ joined {a} {b} {l} {m} {k} {at} {n} {r} p q =
 pub stored-none : (at : ℕ) (l : List ℕ) → StoredAt [] at l l at
 stored-none at l = record { place = omega arith; stored = refl }
 
+-- one byte stored
+pub stored-byte : {l m : List ℕ} (at b : ℕ) → m ≡ set l at b → StoredAt (b ∷ []) at l m (at + 1)
+stored-byte at b e = record { place = refl; stored = e }
+
 pub same-piece : {a b l m : List ℕ} {at n : ℕ} → a ≡ b → StoredAt a at l m n → StoredAt b at l m n
 same-piece {l = l} {m = m} {at = at} {n = n} e t = subst (λ (x : List ℕ). StoredAt x at l m n) e t
 

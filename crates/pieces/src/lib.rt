@@ -1,16 +1,14 @@
-// Bytes stored piece after piece in a lent buffer, as far as it reaches. Each function that stores a
-// piece answers the place behind it; a buffer that is too short holds the front of what is stored.
-ghost use Prim.Native.Nat.{_+_, _<_, _^_};
-ghost use mathlib.Core.List.{[], _∷_};
-ghost use Rattle.pieces.specs.Pieces.{StoredAt};
+// Bytes stored piece after piece in a lent buffer, as far as it reaches: a buffer that is too short
+// holds the front of what is stored. specs/ has the contract of the functions above that store a piece
+// and answer the place behind it.
+ghost use mathlib.Core.Path.{_≡_};
+ghost use lib.ListN.{set};
 
-// Stores one byte.
-pub fn put(out: &mut [u8], at: usize, byte: u8) -> usize
-    requires { ⌜ at + 1 < 2 ^ 64 ⌝ }
-    ensures { λ r. ⌜ StoredAt (byte ∷ []) at (now (out .entry)) (now (out .exit)) r ⌝ }
+// Stores one byte at a place, where the buffer has it.
+pub fn put(out: &mut [u8], at: usize, byte: u8)
+    ensures { λ _. ⌜ now (out .exit) ≡ set (now (out .entry)) at byte ⌝ }
 {
     if at < out.len() {
         out[at] = byte;
     }
-    at + 1
 }

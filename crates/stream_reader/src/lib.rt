@@ -25,15 +25,18 @@ fn put_bytes(out: &mut [u8], at: usize, b: CodeBytes) -> usize
     if b.count == 0 {
         return at;
     }
-    let second = pieces::put(out, at, b.first);
+    pieces::put(out, at, b.first);
+    let second = at + 1;
     if b.count == 1 {
         return second;
     }
-    let third = pieces::put(out, second, b.second);
+    pieces::put(out, second, b.second);
+    let third = second + 1;
     if b.count == 2 {
         return third;
     }
-    pieces::put(out, third, b.third)
+    pieces::put(out, third, b.third);
+    third + 1
 }
 
 // Reads a stream from uppercase mode, code by code, and stores its bytes as far as the buffer reaches. The

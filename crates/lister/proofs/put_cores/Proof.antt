@@ -9,7 +9,7 @@ use Rattle.tables.specs.declared.CoreRow.{CoreRow}
 use Rattle.symbology.proofs.Sides.{cores-least, cores-most, core-most}
 use Rattle.tables.proofs.Cores.{core-at}
 use Rattle.lister.specs.Listing.{coresAfter}
-use Rattle.pieces.proofs.Pieces.{Left, left-all, left-none, stored-kept}
+use Rattle.pieces.proofs.Pieces.{Left, left-all, left-none, stored-byte, stored-kept}
 use Rattle.lister.proofs.Text.{cores-next}
 use Rattle.lister.proofs.Lengths.{cores-length}
 use Rattle.lister.proofs.put_cores.Statement.{statement}
@@ -67,14 +67,17 @@ core-is c =
     )
 
 put-requires : tie.Need-put-requires Inv-loop μ-loop
-put-requires c κs = omega (arith, core-is (c .before) .2)
+put-requires c κs = search needs
+
+add-put-decimal : tie.Need-add-put-decimal Inv-loop μ-loop
+add-put-decimal c = omega (arith, core-is (c .before .before .before .before .before) .2)
 
 put-decimal-requires : tie.Need-put-decimal-requires Inv-loop μ-loop
 put-decimal-requires c κs =
     let s = c .before .before .before .before .before .before .before .before .before .before .before .before in
     let k = core-is (c .before .before .before .before .before) in
     let m = core-most (s .args .version) (s .pre .1) (s .pre .2) (c .before .before .before .before .before .before .before .before .loop .i) (k .1) in
-    (omega (arith, c .before .before .before .put .ensures .place, k .2), omega (arith, k .0))
+    (omega (arith, k .2), omega (arith, k .0))
 
 add-i : tie.Need-add-i Inv-loop μ-loop
 add-i c = omega (arith, core-is (c .before .before .before .before .before .before .before .before) .1)
@@ -86,7 +89,7 @@ loop-again : tie.Need-loop-again Inv-loop μ-loop
 loop-again c =
     let k = core-is (c .before .before .before .before .before .before .before .before) in
     let l = c .before .before .before .before .before .before .before .before .before .before .before .loop in
-    (omega arith, omega (arith, k .1), cores-next (coresOf (c .before .before .before .before .before .before .before .before .before .before .before .before .before .before .before .args .version)) (l .i) (c .before .before .before .before .before .before .before .before .wide2 .result) (k .1) (k .0) (l .inv .2) (c .before .before .before .before .before .before .put .ensures) (c .before .before .put-decimal .ensures))
+    (omega arith, omega (arith, k .1), cores-next (coresOf (c .before .before .before .before .before .before .before .before .before .before .before .before .before .before .before .args .version)) (l .i) (c .before .before .before .before .before .before .before .before .wide2 .result) (k .1) (k .0) (l .inv .2) (stored-byte (l .next) 32 (c .before .before .before .before .before .before .put .ensures)) (c .before .before .put-decimal .ensures))
 
 returns : tie.Need-returns Inv-loop μ-loop
 unfolding coresAfter
@@ -111,6 +114,7 @@ put-cores-spec =
     element-copy-out-wide
     wide-requires-2
     put-requires
+    add-put-decimal
     put-decimal-requires
     add-i
     loop-less

@@ -1,6 +1,7 @@
 -- `lister::put_decimal` meets its contract. Assumes nothing.
 use Prim.Native.Nat.{_/_}
 use native.Mathlib.Omega.{arith}
+use Rattle.pieces.proofs.Pieces.{stored-byte}
 use Rattle.lister.proofs.Decimal.{decimal-length-two, stored-three}
 use borrow.Author.Needs.{needs}
 use Rattle.lister.proofs.put_decimal.Statement.{statement}
@@ -22,9 +23,12 @@ digit-requires : tie.Need-digit-requires
 digit-requires c κs = search needs
 
 put-requires : tie.Need-put-requires
-put-requires c κs =
-    let h = decimal-length-two (c .before .before .before .before .before .before .before .before .args .n / 10) (omega arith) in
-    omega (arith, c .before .before .before .before .put-short2 .ensures .place)
+put-requires c κs = search needs
+
+add-result : tie.Need-add-result
+add-result c =
+    let h = decimal-length-two (c .before .before .before .before .before .before .before .before .before .before .before .args .n / 10) (omega arith) in
+    omega (arith, c .before .before .before .before .before .before .before .put-short2 .ensures .place)
 
 same-length-2 : tie.Need-same-length-2
 same-length-2 c = search needs
@@ -32,7 +36,9 @@ same-length-2 c = search needs
 returns-2 : tie.Need-returns-2
 returns-2 c =
     let s = c .before .before .before .before .before .before .before .before .before .before .before in
-    stored-three (s .args .n) (c .before .before .before .before .before .before .before .before .before .if1 .left) (s .pre .1) (c .before .before .before .digit .ensures) (c .before .before .before .before .before .before .before .put-short2 .ensures) (c .before .before .put .ensures)
+    let front = c .before .before .before .before .before .before .before .put-short2 in
+    let d = c .before .before .before .digit in
+    stored-three (s .args .n) (c .before .before .before .before .before .before .before .before .before .if1 .left) (s .pre .1) (d .ensures) (front .ensures) (stored-byte (front .result) (d .result) (c .before .before .put .ensures))
 
 pub put-decimal-spec : {M : Type 1} → statement M
 put-decimal-spec =
@@ -44,5 +50,6 @@ put-decimal-spec =
     put-short-requires-2
     digit-requires
     put-requires
+    add-result
     same-length-2
     returns-2)

@@ -1,8 +1,9 @@
 -- `lister::put_text` meets its contract: the invariant says what is left to store. Assumes nothing.
 use Prim.Native.Nat.{_≤_, _-_}
 use native.Mathlib.Omega.{arith}
-use lib.ListN.{length, drop, drop-of-length-le}
-use Rattle.pieces.proofs.Pieces.{Left, left-all, left-none, stored-kept}
+use borrow.Author.Needs.{needs}
+use lib.ListN.{length, getD, drop, drop-of-length-le}
+use Rattle.pieces.proofs.Pieces.{Left, left-all, left-none, stored-byte, stored-kept}
 use Rattle.lister.proofs.Text.{text-next}
 use Rattle.lister.proofs.put_text.Statement.{statement}
 use Rattle.lister.proofs.put_text.Tie as tie
@@ -20,13 +21,19 @@ shared-slice-read-put : tie.Need-shared-slice-read-put Inv-loop μ-loop
 shared-slice-read-put c = omega arith
 
 put-requires : tie.Need-put-requires Inv-loop μ-loop
-put-requires c κs = omega arith
+put-requires c κs = search needs
+
+add-at : tie.Need-add-at Inv-loop μ-loop
+add-at c = omega arith
 
 loop-less : tie.Need-loop-less Inv-loop μ-loop
-loop-less c = omega (arith, c .before .before .put .ensures .place)
+loop-less c = omega arith
 
 loop-again : tie.Need-loop-again Inv-loop μ-loop
-loop-again c = text-next (c .before .before .before .before .before .before .before .before .before .args .text .now) (c .before .before .before .before .before .loop-test .taken) (c .before .before .before .before .before .before .loop .inv .1) (c .before .before .put .ensures)
+loop-again c =
+    let text = c .before .before .before .before .before .before .before .before .before .args .text .now in
+    let l = c .before .before .before .before .before .before .loop in
+    text-next text (c .before .before .before .before .before .loop-test .taken) (l .inv .1) (stored-byte (l .at) (getD text (l .at) 0) (c .before .before .put .ensures))
 
 returns : tie.Need-returns Inv-loop μ-loop
 returns c = left-none (drop-of-length-le (c .before .before .before .before .args .text .now) (c .loop-test .left)) (c .before .loop .inv .1)
@@ -43,6 +50,7 @@ put-text-spec =
     loop-holds
     shared-slice-read-put
     put-requires
+    add-at
     loop-less
     loop-again
     same-length

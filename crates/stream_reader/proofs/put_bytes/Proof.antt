@@ -1,10 +1,12 @@
 -- `stream_reader::put_bytes` meets its contract: pieces of one byte, one behind the other. Assumes nothing.
+use Prim.Native.Nat.{_+_}
 use mathlib.Core.Path.{sym}
 use mathlib.Core.List.{[], _∷_}
 use native.Mathlib.Omega.{arith}
 use lib.Seq.{take-all}
 use borrow.Author.Needs.{needs}
-use Rattle.pieces.proofs.Pieces.{stored-none, same-piece, joined}
+use Rattle.pieces.specs.Pieces.{StoredAt}
+use Rattle.pieces.proofs.Pieces.{stored-none, stored-byte, same-piece, joined}
 use Rattle.stream_reader.proofs.put_bytes.Statement.{statement}
 use Rattle.stream_reader.proofs.put_bytes.Tie as tie
 
@@ -16,35 +18,50 @@ returns c =
 put-requires : tie.Need-put-requires
 put-requires c κs = search needs
 
+add-second : tie.Need-add-second
+add-second c = search needs
+
+-- the first byte, and the first two
+first : (c : tie.After-put) → let a = c .before .before .before .before .before .args in StoredAt (a .b .first ∷ []) (a .at) (a .out .now) (c .put .last .0) (a .at + 1)
+first c = let a = c .before .before .before .before .before .args in stored-byte (a .at) (a .b .first) (c .put .ensures)
+
+two : (c : tie.After-put2)
+    → let a = c .before .before .before .before .before .before .before .before .before .before .before .args in StoredAt (a .b .first ∷ a .b .second ∷ []) (a .at) (a .out .now) (c .put2 .last .0) (a .at + 1 + 1)
+two c = let a = c .before .before .before .before .before .before .before .before .before .before .before .args in joined (first (c .before .before .before .before .before .before)) (stored-byte (a .at + 1) (a .b .second) (c .put2 .ensures))
+
 same-length : tie.Need-same-length
 same-length c = search needs
 
 returns-2 : tie.Need-returns-2
-returns-2 c = same-piece (rw (c .if2 .taken)) (c .before .before .before .before .put .ensures)
+returns-2 c = same-piece (rw (c .if2 .taken)) (first (c .before .before .before .before))
 
 put-requires-2 : tie.Need-put-requires-2
 put-requires-2 c κs = search needs
+
+add-third : tie.Need-add-third
+add-third c = search needs
 
 same-length-2 : tie.Need-same-length-2
 same-length-2 c = search needs
 
 returns-3 : tie.Need-returns-3
-returns-3 c =
-    let first = c .before .before .before .before .before .before .before .before .before .before .put .ensures in
-    same-piece (rw (c .if3 .taken)) (joined first (c .before .before .before .before .put2 .ensures))
+returns-3 c = same-piece (rw (c .if3 .taken)) (two (c .before .before .before .before))
 
 put-requires-3 : tie.Need-put-requires-3
 put-requires-3 c κs = search needs
+
+add-result : tie.Need-add-result
+add-result c = search needs
 
 same-length-3 : tie.Need-same-length-3
 same-length-3 c = search needs
 
 returns-4 : tie.Need-returns-4
 returns-4 c =
-    let first = c .before .before .before .before .before .before .before .before .before .before .before .before .before .before .put .ensures in
-    let b = c .before .before .before .before .before .before .before .before .before .before .before .before .before .before .before .before .before .before .before .args .b in
+    let a = c .before .before .before .before .before .before .before .before .before .before .before .before .before .before .before .before .before .before .before .args in
+    let b = a .b in
     same-piece (sym (take-all (b .count) (b .first ∷ b .second ∷ b .third ∷ []) (omega arith)))
-    (joined (joined first (c .before .before .before .before .before .before .before .before .put2 .ensures)) (c .before .before .put3 .ensures))
+    (joined (two (c .before .before .before .before .before .before .before .before)) (stored-byte (a .at + 1 + 1) (b .third) (c .before .before .put3 .ensures)))
 
 pub put-bytes-spec : {M : Type 1} → statement M
 put-bytes-spec =
@@ -52,11 +69,14 @@ put-bytes-spec =
     (tie.spec
     returns
     put-requires
+    add-second
     same-length
     returns-2
     put-requires-2
+    add-third
     same-length-2
     returns-3
     put-requires-3
+    add-result
     same-length-3
     returns-4)
