@@ -8,7 +8,7 @@
  *
  * What the caller owes, and no call can test:
  * - A pointer is not null, also where its length is 0, is aligned for its type, and points at as many elements as the length
- *   beside it says (params and answer: as many as their brackets say).
+ *   beside it says (params and answer: at one).
  * - A buffer that a call stores to overlaps no other argument. These are answer and work in every call that has them, matrix in
  *   jab_write and message in jab_read.
  *
@@ -24,27 +24,31 @@
 extern "C" {
 #endif
 
-/* params: any numbers may stand here; those outside these ranges are refused with 1.
+/* The parameters. Any numbers may stand here; those outside these ranges are refused with 1.
  *
- *   [0]  kind                     0 primary, 1 secondary
- *   [1]  horizontal side-version  1 to 32; a side has 17 + 4 * side-version modules
- *   [2]  vertical side-version    1 to 32
- *   [3]  colours N                4 or 8
- *   [4]  index of black           [4], [5] and [6] are below N and all different
- *   [5]  index of cyan
- *   [6]  index of yellow
- *   [7]  wc                       3 to 8, and below wr
- *   [8]  wr                       4 to 9
- *   [9]  mask                     0 to 7
- *   [10] turn                     0 or 1: how the alignment patterns X0 and X1 lie
- *
- * reserved: the palette and metadata modules, three numbers to an entry: column and row, counted from 1, and colour index. At
+ * Set members by name, {.kind = 0, .horizontal = 1, ..}: one that is not named is 0. All members are of one type, so that the struct
+ * lies in memory as an array of them does, in this order. */
+typedef struct {
+    uint32_t kind;       /* 0 primary, 1 secondary */
+    uint32_t horizontal; /* side-version, 1 to 32; a side has 17 + 4 * side-version modules */
+    uint32_t vertical;   /* side-version, 1 to 32 */
+    uint32_t colours;    /* N, 4 or 8 */
+    uint32_t black;      /* index of black; these three are below N and all different */
+    uint32_t cyan;       /* index of cyan */
+    uint32_t yellow;     /* index of yellow */
+    uint32_t wc;         /* 3 to 8, and below wr */
+    uint32_t wr;         /* 4 to 9 */
+    uint32_t mask;       /* 0 to 7 */
+    uint32_t turn;       /* 0 or 1: how the alignment patterns X0 and X1 lie */
+} jab_params;
+
+/* reserved: the palette and metadata modules, three numbers to an entry: column and row, counted from 1, and colour index. At
  * most 1,024 entries, each inside the symbol, on no finder or alignment pattern, on a module of its own, and with a colour below
  * N. reserved_len counts numbers, not entries.
  *
  * A matrix has one byte a module, a colour index, row after row from the upper left. */
 
-/* The numbers in answer[0]. The lowest that applies is given.
+/* The numbers of an answer. The lowest that applies is given.
  *
  *    0  done
  *    1  a parameter is outside its range
@@ -64,28 +68,53 @@ extern "C" {
  *   13  read: ECI or FNC1
  *   14  read: the message is longer than its buffer
  *
- * answer[1] is the place, which is 0 with all numbers but 2 and 7. A place that 32 bits do not hold is given as UINT32_MAX: that
- * can only be the place of 2, with a reserved_len of 12,884,901,888 or more. Every other number of an answer is given as it is. */
+ * The place is 0 with all numbers but 2 and 7. Every number of an answer is given as it is, for every input. */
 
-/* What a symbol needs. answer: number (0 to 3), place, columns, rows, capacity C in bits, net bits, and the least work_len of
- * the other two calls; the last five are 0 on refusal. */
-void jab_sizes(const uint32_t params[11], const uint16_t *reserved, size_t reserved_len, uint32_t answer[7]);
+/* The answer of jab_sizes. The sizes are 0 on refusal. */
+typedef struct {
+    uint64_t number; /* 0 to 3 */
+    uint64_t place;
+    uint64_t columns;
+    uint64_t rows;
+    uint64_t capacity; /* C, in bits */
+    uint64_t net;      /* Pn, the net bits */
+    uint64_t work;     /* the least work_len of the other two calls */
+    uint64_t gross;    /* Pg, the bits of a codeword */
+    uint64_t checks;   /* K, the checks */
+} jab_sizes_answer;
 
-/* Writes message into matrix. answer: number (0 to 6), place.
+/* The answer of jab_write. */
+typedef struct {
+    uint64_t number; /* 0 to 6 */
+    uint64_t place;
+} jab_write_answer;
+
+/* The answer of jab_read. On a refusal the length is 0; with 1 to 8 the two counts are 0. */
+typedef struct {
+    uint64_t number; /* 0 to 14, never 6 */
+    uint64_t place;
+    uint64_t length;  /* of the message, in bytes */
+    uint64_t repairs; /* never more than unmet */
+    uint64_t unmet;   /* the checks that were unmet in the word received */
+} jab_read_answer;
+
+/* What a symbol needs. */
+void jab_sizes(const jab_params *params, const uint16_t *reserved, size_t reserved_len, jab_sizes_answer *answer);
+
+/* Writes message into matrix.
  *
  * On 0 every module of matrix is stored; on a refusal matrix is as it came. work is scratch of at least as many bytes as
  * jab_sizes says; whatever it holds on entry, all work_len bytes of it are 0 afterwards, but with 1 to 5 it is not touched. */
-void jab_write(const uint32_t params[11], const uint16_t *reserved, size_t reserved_len, const uint8_t *message, size_t message_len,
-               uint8_t *matrix, size_t matrix_len, uint8_t *work, size_t work_len, uint32_t answer[2]);
+void jab_write(const jab_params *params, const uint16_t *reserved, size_t reserved_len, const uint8_t *message, size_t message_len,
+               uint8_t *matrix, size_t matrix_len, uint8_t *work, size_t work_len, jab_write_answer *answer);
 
-/* Reads a sampled matrix into message. answer: number (0 to 14, never 6), place, length of the message, repairs, and the number
- * of checks that were unmet in the word received.
+/* Reads a sampled matrix into message.
  *
- * On 0 the first answer[2] bytes of message are the message and the others are as they came; on a refusal all of message is as
- * it came, and answer[2] is 0. With 1 to 8 the last two counts are 0. Repairs never exceed the checks unmet at first. Each
- * repair turned one bit, the lowest-numbered in more unmet checks than met ones. work is as in jab_write. */
-void jab_read(const uint32_t params[11], const uint16_t *reserved, size_t reserved_len, const uint8_t *matrix, size_t matrix_len,
-              uint8_t *work, size_t work_len, uint8_t *message, size_t message_len, uint32_t answer[5]);
+ * On 0 the first bytes of message, as many as the answer's length says, are the message and the others are as they came; on a
+ * refusal all of message is as it came. Each repair turned one bit, the lowest-numbered in more unmet checks than met ones. work is
+ * as in jab_write. */
+void jab_read(const jab_params *params, const uint16_t *reserved, size_t reserved_len, const uint8_t *matrix, size_t matrix_len,
+              uint8_t *work, size_t work_len, uint8_t *message, size_t message_len, jab_read_answer *answer);
 
 #ifdef __cplusplus
 }

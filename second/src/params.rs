@@ -20,7 +20,7 @@ pub struct Params {
 }
 
 /// The sizes of a symbol: its sides in modules, its capacity C and net payload
-/// Pn in bits, and the least work buffer in bytes.
+/// Pn in bits, the least work buffer in bytes, and then Pg and K.
 #[derive(Clone, Copy, Debug, PartialEq, Eq)]
 pub struct Sizes {
     pub columns: usize,
@@ -28,6 +28,8 @@ pub struct Sizes {
     pub capacity: usize,
     pub net: usize,
     pub work: usize,
+    pub gross: usize,
+    pub checks: usize,
 }
 
 /// A number of document 01's list and its place; number 0 is no refusal.

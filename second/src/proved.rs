@@ -11,7 +11,7 @@ pub fn archive() -> &'static str {
 
 #[link(name = "jabcode_c", kind = "static")]
 extern "C" {
-    fn jab_sizes(params: *const u32, reserved: *const u16, reserved_len: usize, answer: *mut u32);
+    fn jab_sizes(params: *const u32, reserved: *const u16, reserved_len: usize, answer: *mut u64);
 
     fn jab_write(
         params: *const u32,
@@ -23,7 +23,7 @@ extern "C" {
         matrix_len: usize,
         work: *mut u8,
         work_len: usize,
-        answer: *mut u32,
+        answer: *mut u64,
     );
 
     fn jab_read(
@@ -36,7 +36,7 @@ extern "C" {
         work_len: usize,
         message: *mut u8,
         message_len: usize,
-        answer: *mut u32,
+        answer: *mut u64,
     );
 }
 
@@ -59,56 +59,64 @@ fn numbers(p: &Params) -> [u32; 11] {
 /// What stands around the parameters and the answer, and in the answer before
 /// the call.
 const GUARD: u32 = 0xA55A_C33C;
+const WIDE_GUARD: u64 = 0xA55A_C33C_5AA5_3CC3;
 const FRONT: usize = 8;
 
 /// Numbers between two guards.
-fn guarded(numbers: &[u32]) -> [u32; 32] {
-    let mut lent = [GUARD; 32];
+fn guarded<T: Copy>(guard: T, numbers: &[T]) -> [T; 32] {
+    let mut lent = [guard; 32];
     lent[FRONT..FRONT + numbers.len()].copy_from_slice(numbers);
     lent
 }
 
-/// The N numbers that a call with the parameters answers. It must store nothing
-/// around them, and leave the parameters alone.
-fn answer_of<const N: usize>(p: &Params, call: impl FnOnce(*const u32, *mut u32)) -> [u32; N] {
-    let given = guarded(&numbers(p));
+/// The N numbers that a call with the parameters answers: the header's structs
+/// lie in memory as arrays of their members. It must store nothing around them,
+/// and leave the parameters alone.
+fn answer_of<const N: usize>(p: &Params, call: impl FnOnce(*const u32, *mut u64)) -> [u64; N] {
+    let given = guarded(GUARD, &numbers(p));
     // mutable both, or the compiler might take it that nothing was stored
-    let (mut params, mut lent) = (given, [GUARD; 32]);
+    let (mut params, mut lent) = (given, [WIDE_GUARD; 32]);
     call(
         params.as_mut_ptr().wrapping_add(FRONT),
         lent.as_mut_ptr().wrapping_add(FRONT),
     );
-    let answer: [u32; N] = lent[FRONT..FRONT + N].try_into().expect("N numbers");
+    let answer: [u64; N] = lent[FRONT..FRONT + N].try_into().expect("N numbers");
     assert_eq!(params, given, "the parameters and what is around them");
-    assert_eq!(lent, guarded(&answer), "what is around the answer");
+    assert_eq!(lent, guarded(WIDE_GUARD, &answer), "what is around the answer");
     answer
 }
 
-fn refusal(number: u32, place: u32) -> Refusal {
+fn refusal(number: u64, place: u64) -> Refusal {
     Refusal {
-        number,
+        number: narrow(number),
         place: place as usize,
     }
+}
+
+fn narrow(number: u64) -> u32 {
+    u32::try_from(number).expect("a number of document 01")
 }
 
 pub fn sizes(p: &Params, list: &[u16]) -> Result<Sizes, Refusal> {
     // SAFETY: the pointers come from borrows that last over the call, with
     // their lengths; params and answer have the elements that the header asks.
-    let [number, place, counts @ ..]: [u32; 7] = answer_of(p, |params, answer| unsafe {
+    let [number, place, counts @ ..]: [u64; 9] = answer_of(p, |params, answer| unsafe {
         jab_sizes(params, list.as_ptr(), list.len(), answer)
     });
     if number != 0 {
-        assert_eq!(counts, [0; 5], "the sizes beside a refusal");
+        assert_eq!(counts, [0; 7], "the sizes beside a refusal");
         return Err(refusal(number, place));
     }
     assert_eq!(place, 0, "the place beside sizes");
-    let [columns, rows, capacity, net, work] = counts.map(|count| count as usize);
+    let [columns, rows, capacity, net, work, gross, checks] = counts.map(|count| count as usize);
     Ok(Sizes {
         columns,
         rows,
         capacity,
         net,
         work,
+        gross,
+        checks,
     })
 }
 
@@ -162,7 +170,7 @@ pub fn read(
         )
     });
     ReadAnswer {
-        number,
+        number: narrow(number),
         place: place as usize,
         length: length as usize,
         repairs: repairs as usize,

@@ -48,6 +48,8 @@ impl Symbol {
             capacity: self.lengths.capacity,
             net: self.lengths.net,
             work: self.lengths.work(),
+            gross: self.lengths.gross,
+            checks: self.lengths.checks,
         }
     }
 

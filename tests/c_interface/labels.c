@@ -2,9 +2,16 @@
  * computed by another program, which is said there. Exits with 1 at the first answer that differs. Symbols keep to document 01's limits for
  * programs: C at most 1,047, wc 3, wr 9, at most 53,964 work bytes. */
 #include "jabcode.h"
+#include <inttypes.h>
 #include <stdio.h>
 #include <stdlib.h>
 #include <string.h>
+
+/* the structs lie in memory as arrays of their members do */
+_Static_assert(sizeof(jab_params) == 11 * sizeof(uint32_t), "jab_params");
+_Static_assert(sizeof(jab_sizes_answer) == 9 * sizeof(uint64_t), "jab_sizes_answer");
+_Static_assert(sizeof(jab_write_answer) == 2 * sizeof(uint64_t), "jab_write_answer");
+_Static_assert(sizeof(jab_read_answer) == 5 * sizeof(uint64_t), "jab_read_answer");
 
 enum { SIDE = 21, MODULES = SIDE * SIDE, MOST_WORK = 53964, ROOM = 120, FILL = 0xA5 };
 
@@ -13,19 +20,33 @@ static uint8_t matrix[MODULES + 20], work[MOST_WORK + 100], message[ROOM + 20];
 static uint16_t list[3 * 64];
 
 /* document 01's points P3 and P6: primary, version 1, 8 colours, wc 3, wr 9, with 24 entries: C 1,047 and 696 net bits */
-static const uint32_t small[11] = {0, 1, 1, 8, 0, 3, 6, 3, 9, 0, 0};
+static const jab_params small = {.horizontal = 1, .vertical = 1, .colours = 8, .cyan = 3, .yellow = 6, .wc = 3, .wr = 9};
 
-static void fail(const char *what, const uint32_t *answer, size_t n) {
+/* an answer's numbers: its members, which are all uint64_t */
+static void fail(const char *what, const void *answer, size_t bytes) {
     printf("c_interface: %s:", what);
-    for (size_t i = 0; i < n; i++)
-        printf(" %u", answer[i]);
+    for (size_t i = 0; i < bytes / sizeof(uint64_t); i++)
+        printf(" %" PRIu64, ((const uint64_t *)answer)[i]);
     printf("\n");
     exit(1);
 }
 
-static void expect(const char *what, const uint32_t *answer, const uint32_t *expected, size_t n) {
-    if (memcmp(answer, expected, n * sizeof *answer) != 0)
-        fail(what, answer, n);
+static void expect(const char *what, const void *answer, const void *expected, size_t bytes) {
+    if (memcmp(answer, expected, bytes) != 0)
+        fail(what, answer, bytes);
+}
+
+static void expect_sizes(const char *what, jab_sizes_answer a, jab_sizes_answer expected) {
+    expect(what, &a, &expected, sizeof a);
+}
+
+static void expect_write(const char *what, jab_write_answer a, uint64_t number, uint64_t place) {
+    jab_write_answer expected = {.number = number, .place = place};
+    expect(what, &a, &expected, sizeof a);
+}
+
+static void expect_read(const char *what, jab_read_answer a, jab_read_answer expected) {
+    expect(what, &a, &expected, sizeof a);
 }
 
 static void must(const char *what, int holds) {
@@ -57,48 +78,53 @@ static void label(uint8_t *bytes, size_t n, unsigned seed) {
 }
 
 /* the least work buffer of a symbol */
-static size_t work_bytes(const uint32_t *params, size_t entries) {
-    uint32_t answer[7];
-    jab_sizes(params, list, 3 * entries, answer);
-    must("a symbol of at most 53,964 work bytes", answer[0] == 0 && answer[6] <= MOST_WORK);
-    return answer[6];
+static size_t work_bytes(const jab_params *params, size_t entries) {
+    jab_sizes_answer answer;
+    jab_sizes(params, list, 3 * entries, &answer);
+    must("a symbol of at most 53,964 work bytes", answer.number == 0 && answer.work <= MOST_WORK);
+    return answer.work;
 }
 
 /* A write and a read of legal input, each with a work buffer that comes dirty, is lent no byte more than it needs, and is all zero
  * afterwards. */
-static void write_label(const uint32_t *params, size_t entries, const uint8_t *bytes, size_t n, uint32_t *answer) {
+static jab_write_answer write_label(const jab_params *params, size_t entries, const uint8_t *bytes, size_t n) {
+    jab_write_answer answer;
     size_t need = work_bytes(params, entries);
     memset(work, FILL, sizeof work);
     memset(matrix + MODULES, FILL, sizeof matrix - MODULES);
-    jab_write(params, list, 3 * entries, bytes, n, matrix, MODULES, work, need, answer);
+    jab_write(params, list, 3 * entries, bytes, n, matrix, MODULES, work, need, &answer);
     must("the bytes behind the matrix", all(matrix + MODULES, sizeof matrix - MODULES, FILL));
     must("the work buffer after a write", all(work, need, 0) && all(work + need, sizeof work - need, FILL));
+    return answer;
 }
 
-static void read_label(const uint32_t *params, size_t entries, size_t room, uint32_t *answer) {
+static jab_read_answer read_label(const jab_params *params, size_t entries, size_t room) {
+    jab_read_answer answer;
     size_t need = work_bytes(params, entries);
     memset(work, FILL, sizeof work);
     memset(message, FILL, sizeof message);
-    jab_read(params, list, 3 * entries, matrix, MODULES, work, need, message, room, answer);
+    jab_read(params, list, 3 * entries, matrix, MODULES, work, need, message, room, &answer);
     must("the work buffer after a read", all(work, need, 0) && all(work + need, sizeof work - need, FILL));
     must("the bytes behind the message buffer", all(message + room, sizeof message - room, FILL));
-    must("a message longer than its buffer", answer[2] <= room);
+    must("a message longer than its buffer", answer.length <= room);
     must("the message buffer behind the message, or on refusal",
-         all(message + answer[2], room - answer[2], FILL) && (answer[0] == 0 || answer[2] == 0));
+         all(message + answer.length, room - answer.length, FILL) && (answer.number == 0 || answer.length == 0));
+    return answer;
 }
 
 /* P3 and P6, document 01's 53,964 work bytes, and refusals without sizes */
 static void sizes(void) {
-    uint32_t answer[7], params[11];
+    jab_sizes_answer answer;
+    jab_params params = small;
     reserve(24, 7);
-    jab_sizes(small, list, 72, answer);
-    expect("sizes", answer, (uint32_t[]){0, 0, 21, 21, 1047, 696, 53964}, 7);
-    memcpy(params, small, sizeof params);
-    params[2] = 33;
-    jab_sizes(params, list, 72, answer);
-    expect("sizes of side-version 33", answer, (uint32_t[]){1, 0, 0, 0, 0, 0, 0}, 7);
-    jab_sizes(small, list, 71, answer);
-    expect("sizes with 71 numbers in the list", answer, (uint32_t[]){2, 23, 0, 0, 0, 0, 0}, 7);
+    jab_sizes(&small, list, 72, &answer);
+    expect_sizes("sizes", answer,
+                 (jab_sizes_answer){.columns = 21, .rows = 21, .capacity = 1047, .net = 696, .work = 53964, .gross = 1044, .checks = 348});
+    params.vertical = 33;
+    jab_sizes(&params, list, 72, &answer);
+    expect_sizes("sizes of side-version 33", answer, (jab_sizes_answer){.number = 1});
+    jab_sizes(&small, list, 71, &answer);
+    expect_sizes("sizes with 71 numbers in the list", answer, (jab_sizes_answer){.number = 2, .place = 23});
 }
 
 /* Each kind, number of colours, mask and turn: what is written reads back with no repair. With these entries C is 676 and 778 at 4
@@ -106,21 +132,18 @@ static void sizes(void) {
 static void round_trips(void) {
     unsigned labels = 0;
     for (uint32_t bits = 0; bits < 64; bits++) {
-        uint32_t params[11] = {bits & 1, 1, 1, bits & 2 ? 8 : 4, 0, 1, 2, 3, 9, bits >> 3, bits >> 2 & 1};
-        size_t entries = params[3] == 4 ? (params[0] == 0 ? 35 : 24) : (params[0] == 0 ? 24 : 64);
+        jab_params params = {bits & 1, 1, 1, bits & 2 ? 8 : 4, 0, 1, 2, 3, 9, bits >> 3, bits >> 2 & 1};
+        size_t entries = params.colours == 4 ? (params.kind == 0 ? 35 : 24) : (params.kind == 0 ? 24 : 64);
         uint8_t bytes[ROOM];
-        uint32_t answer[5];
         /* at C 676 there are 450 net bits, and n bytes take at most 8 n + 25 with the end mark */
-        size_t n = bits > 50 && params[3] == 4 ? 50 : bits;
+        size_t n = bits > 50 && params.colours == 4 ? 50 : bits;
         reserve(entries, 3);
         label(bytes, n, bits);
         memset(matrix, FILL, sizeof matrix);
-        write_label(params, entries, bytes, n, answer);
-        expect("write", answer, (uint32_t[]){0, 0}, 2);
+        expect_write("write", write_label(&params, entries, bytes, n), 0, 0);
         for (size_t i = 0; i < MODULES; i++)
-            must("a module of N or more", matrix[i] < params[3]);
-        read_label(params, entries, n, answer);
-        expect("read", answer, (uint32_t[]){0, 0, (uint32_t)n, 0, 0}, 5);
+            must("a module of N or more", matrix[i] < params.colours);
+        expect_read("read", read_label(&params, entries, n), (jab_read_answer){.length = n});
         must("the message read back", memcmp(message, bytes, n) == 0);
         labels++;
     }
@@ -135,34 +158,32 @@ static void round_trips(void) {
  * rule, not its code; the second program, written from the papers alone, gave 949, 95 and 3 too (second/tests/round_trips.rs). */
 static void one_bit_turned(void) {
     uint8_t bytes[80], clean[MODULES];
-    uint32_t answer[5];
     unsigned stuffing = 0, mended = 0, stuck = 0;
     reserve(24, 7);
     label(bytes, sizeof bytes, 7);
-    write_label(small, 24, bytes, sizeof bytes, answer);
-    expect("write", answer, (uint32_t[]){0, 0}, 2);
+    expect_write("write", write_label(&small, 24, bytes, sizeof bytes), 0, 0);
     memcpy(clean, matrix, MODULES);
     for (size_t i = 0; i < MODULES; i++) {
         for (uint8_t bit = 1; bit < 8; bit <<= 1) {
             memcpy(matrix, clean, MODULES);
             matrix[i] ^= bit;
-            read_label(small, 24, ROOM, answer);
-            uint32_t repairs = answer[3];
-            if (answer[0] == 8) {
-                expect("a stuffing bit turned", answer, (uint32_t[]){8, 0, 0, 0, 0}, 5);
+            jab_read_answer answer = read_label(&small, 24, ROOM);
+            if (answer.number == 8) {
+                expect_read("a stuffing bit turned", answer, (jab_read_answer){.number = 8});
                 stuffing++;
                 continue;
             }
-            if (answer[0] == 9) {
-                expect("a bit turned and stuck", answer, (uint32_t[]){9, 0, 0, repairs == 1 ? 1 : 2, 3}, 5);
+            if (answer.number == 9) {
+                expect_read("a bit turned and stuck", answer,
+                            (jab_read_answer){.number = 9, .repairs = answer.repairs == 1 ? 1 : 2, .unmet = 3});
                 stuck++;
                 continue;
             }
-            if (repairs == 0) {
+            if (answer.repairs == 0) {
                 /* a pattern or reserved module, which the reader does not compare */
-                expect("a module that holds no data", answer, (uint32_t[]){0, 0, sizeof bytes, 0, 0}, 5);
+                expect_read("a module that holds no data", answer, (jab_read_answer){.length = sizeof bytes});
             } else {
-                expect("a bit turned and mended", answer, (uint32_t[]){0, 0, sizeof bytes, 1, 3}, 5);
+                expect_read("a bit turned and mended", answer, (jab_read_answer){.length = sizeof bytes, .repairs = 1, .unmet = 3});
                 mended++;
             }
             must("the message of a damaged label", memcmp(message, bytes, sizeof bytes) == 0);
@@ -176,12 +197,11 @@ static void one_bit_turned(void) {
  * in all, and 8 has no counts. */
 static void many_modules_turned(void) {
     uint8_t bytes[60], clean[MODULES];
-    uint32_t answer[5], numbers[15] = {0};
+    unsigned numbers[15] = {0};
     uint32_t random = 12345;
     reserve(24, 7);
     label(bytes, sizeof bytes, 3);
-    write_label(small, 24, bytes, sizeof bytes, answer);
-    expect("write", answer, (uint32_t[]){0, 0}, 2);
+    expect_write("write", write_label(&small, 24, bytes, sizeof bytes), 0, 0);
     memcpy(clean, matrix, MODULES);
     for (unsigned round = 0; round < 1000; round++) {
         memcpy(matrix, clean, MODULES);
@@ -189,13 +209,13 @@ static void many_modules_turned(void) {
             random = random * 1664525u + 1013904223u;
             matrix[(random >> 8) % MODULES] ^= 1 + (random >> 24) % 7;
         }
-        read_label(small, 24, ROOM, answer);
-        must("0, or 8 to 14", answer[0] == 0 || (answer[0] >= 8 && answer[0] <= 14));
-        must("a place", answer[1] == 0);
-        must("no more repairs than unmet checks", answer[3] <= answer[4] && answer[4] <= 348);
-        if (answer[0] == 8)
-            expect("no counts with 8", answer, (uint32_t[]){8, 0, 0, 0, 0}, 5);
-        numbers[answer[0]]++;
+        jab_read_answer answer = read_label(&small, 24, ROOM);
+        must("0, or 8 to 14", answer.number == 0 || (answer.number >= 8 && answer.number <= 14));
+        must("a place", answer.place == 0);
+        must("no more repairs than unmet checks", answer.repairs <= answer.unmet && answer.unmet <= 348);
+        if (answer.number == 8)
+            expect_read("no counts with 8", answer, (jab_read_answer){.number = 8});
+        numbers[answer.number]++;
     }
     printf("c_interface: up to 40 modules turned:");
     for (unsigned n = 0; n < 15; n++)
@@ -205,33 +225,33 @@ static void many_modules_turned(void) {
 }
 
 /* a write and a read that one of the tests 1 to 5 refuses: same answer, and every buffer as it came */
-static void refused_early(const char *what, const uint32_t *params, size_t numbers, size_t modules, size_t room, uint32_t number, uint32_t place) {
+static void refused_early(const char *what, jab_params params, size_t numbers, size_t modules, size_t room, uint64_t number, uint64_t place) {
     uint8_t bytes[10] = {0};
-    uint32_t answer[5];
+    jab_write_answer written;
+    jab_read_answer read;
     memset(work, FILL, sizeof work);
     memset(matrix, FILL, sizeof matrix);
     memset(message, FILL, sizeof message);
-    jab_write(params, list, numbers, bytes, sizeof bytes, matrix, modules, work, room, answer);
-    expect(what, answer, (uint32_t[]){number, place}, 2);
-    jab_read(params, list, numbers, matrix, modules, work, room, message, ROOM, answer);
-    expect(what, answer, (uint32_t[]){number, place, 0, 0, 0}, 5);
+    jab_write(&params, list, numbers, bytes, sizeof bytes, matrix, modules, work, room, &written);
+    expect_write(what, written, number, place);
+    jab_read(&params, list, numbers, matrix, modules, work, room, message, ROOM, &read);
+    expect_read(what, read, (jab_read_answer){.number = number, .place = place});
     must(what, all(work, sizeof work, FILL) && all(matrix, sizeof matrix, FILL) && all(message, sizeof message, FILL));
 }
 
 /* 1 to 5 in both calls, the lower number where two apply */
 static void early_refusals(void) {
-    uint32_t params[11];
+    jab_params params = small;
     reserve(24, 7);
-    memcpy(params, small, sizeof params);
-    params[5] = 0;
+    params.cyan = 0;
     refused_early("cyan as black", params, 71, MODULES, 0, 1, 0);
     refused_early("71 numbers in the list", small, 71, MODULES, MOST_WORK, 2, 23);
     list[3 * 5] = 0;
     refused_early("an entry in column 0", small, 72, MODULES - 1, MOST_WORK, 2, 5);
     reserve(24, 7);
     /* version 32 has 145 * 145 modules, and C is far above 4,096 */
-    memcpy(params, small, sizeof params);
-    params[1] = params[2] = 32;
+    params = small;
+    params.horizontal = params.vertical = 32;
     refused_early("side-version 32", params, 72, MODULES, MOST_WORK, 3, 0);
     refused_early("a matrix one module short", small, 72, MODULES - 1, MOST_WORK - 1, 4, 0);
     refused_early("a work buffer one byte short", small, 72, MODULES, MOST_WORK - 1, 5, 0);
@@ -240,27 +260,21 @@ static void early_refusals(void) {
 /* 6, 7 and 14 at their limits */
 static void late_refusals(void) {
     uint8_t bytes[84];
-    uint32_t answer[5];
     reserve(24, 7);
     label(bytes, sizeof bytes, 1);
 
     /* 84 bytes take 24 + 672 bits and the end mark, one more than the 696 net bits of P6; 83 fit */
     memset(matrix, FILL, sizeof matrix);
-    write_label(small, 24, bytes, 84, answer);
-    expect("a message with no room", answer, (uint32_t[]){6, 0}, 2);
+    expect_write("a message with no room", write_label(&small, 24, bytes, 84), 6, 0);
     must("the matrix after 6", all(matrix, sizeof matrix, FILL));
-    write_label(small, 24, bytes, 83, answer);
-    expect("a message that just fits", answer, (uint32_t[]){0, 0}, 2);
+    expect_write("a message that just fits", write_label(&small, 24, bytes, 83), 0, 0);
 
-    read_label(small, 24, 82, answer);
-    expect("a message buffer one byte short", answer, (uint32_t[]){14, 0, 0, 0, 0}, 5);
-    read_label(small, 24, 83, answer);
-    expect("a message buffer that just fits", answer, (uint32_t[]){0, 0, 83, 0, 0}, 5);
+    expect_read("a message buffer one byte short", read_label(&small, 24, 82), (jab_read_answer){.number = 14});
+    expect_read("a message buffer that just fits", read_label(&small, 24, 83), (jab_read_answer){.length = 83});
 
     matrix[300] = 8;
     matrix[400] = 255;
-    read_label(small, 24, ROOM, answer);
-    expect("a module of 8", answer, (uint32_t[]){7, 300, 0, 0, 0}, 5);
+    expect_read("a module of 8", read_label(&small, 24, ROOM), (jab_read_answer){.number = 7, .place = 300});
 }
 
 int main(void) {

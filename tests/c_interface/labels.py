@@ -9,18 +9,29 @@ import sys
 jab = ctypes.CDLL(sys.argv[1])
 
 
-def call(function, params, *buffers, answers):
-    """A call of the interface: the parameters, each buffer with its length, and as many numbers of an answer."""
-    answer = (ctypes.c_uint32 * answers)()
-    arguments = [(ctypes.c_uint32 * 11)(*params)]
+def record(name, kind, *members):
+    """A struct of the header: all its members are of one type."""
+    return type(name, (ctypes.Structure,), {"_fields_": [(member, kind) for member in members]})
+
+
+Params = record("jab_params", ctypes.c_uint32, "kind", "horizontal", "vertical", "colours", "black", "cyan", "yellow", "wc", "wr", "mask", "turn")
+SizesAnswer = record("jab_sizes_answer", ctypes.c_uint64, "number", "place", "columns", "rows", "capacity", "net", "work", "gross", "checks")
+WriteAnswer = record("jab_write_answer", ctypes.c_uint64, "number", "place")
+ReadAnswer = record("jab_read_answer", ctypes.c_uint64, "number", "place", "length", "repairs", "unmet")
+
+
+def call(function, answer, params, *buffers):
+    """A call of the interface: the parameters, each buffer with its length, and the answer's numbers."""
+    given = answer()
+    arguments = [ctypes.byref(params)]
     for buffer in buffers:
         arguments += [buffer, ctypes.c_size_t(len(buffer))]
-    function(*arguments, answer)
-    return list(answer)
+    function(*arguments, ctypes.byref(given))
+    return [getattr(given, name) for name, _ in answer._fields_]
 
 
 # primary, version 1, 8 colours, black 0, cyan 3, yellow 6, wc 3, wr 9, mask 0, turn 0, and the label command's four palettes
-params = [0, 1, 1, 8, 0, 3, 6, 3, 9, 0, 0]
+params = Params(horizontal=1, vertical=1, colours=8, cyan=3, yellow=6, wc=3, wr=9)
 entries = []
 for row in (8, 14):
     for first, other in ((1, 3), (16, 6)):
@@ -28,19 +39,19 @@ for row in (8, 14):
             entries += [column, row, colour]
 reserved = (ctypes.c_uint16 * len(entries))(*entries)
 
-sizes = call(jab.jab_sizes, params, reserved, answers=7)
-assert sizes == [0, 0, 21, 21, 1047, 696, 53964], sizes
+sizes = call(jab.jab_sizes, SizesAnswer, params, reserved)
+assert sizes == [0, 0, 21, 21, 1047, 696, 53964, 1044, 348], sizes
 columns, rows, work_bytes = sizes[2], sizes[3], sizes[6]
 
-record = open(sys.argv[2], "rb").read()
-message = (ctypes.c_uint8 * len(record)).from_buffer_copy(record)
+tray = open(sys.argv[2], "rb").read()
+message = (ctypes.c_uint8 * len(tray)).from_buffer_copy(tray)
 matrix = (ctypes.c_uint8 * (columns * rows))()
 work = (ctypes.c_uint8 * work_bytes)()
-assert call(jab.jab_write, params, reserved, message, matrix, work, answers=2) == [0, 0]
+assert call(jab.jab_write, WriteAnswer, params, reserved, message, matrix, work) == [0, 0]
 text = "".join("".join(map(str, matrix[r * columns:(r + 1) * columns])) + "\n" for r in range(rows))
 assert text == open(sys.argv[3]).read(), text
 
 back = (ctypes.c_uint8 * 100)()
-assert call(jab.jab_read, params, reserved, matrix, work, back, answers=5) == [0, 0, len(record), 0, 0]
-assert bytes(back[:len(record)]) == record
+assert call(jab.jab_read, ReadAnswer, params, reserved, matrix, work, back) == [0, 0, len(tray), 0, 0]
+assert bytes(back[:len(tray)]) == tray
 print("c_interface: the same label written and read from Python")
