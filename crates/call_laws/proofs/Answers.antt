@@ -9,16 +9,15 @@ use mathlib.Core.List.{List, [], _∷_, _++_}
 use native.Mathlib.Nat.{zero-add}
 use native.Mathlib.Omega.{arith}
 use lib.Dec.{eqb}
-use lib.ListN.{length, take, drop, replicate, length-append, length-replicate, length-take, length-drop}
-use lib.Seq.{sets, length-sets, sets-eq, take-at, drop-at}
-use borrow.Author.Tests.{eq-eqb, ne-eqb}
+use lib.ListN.{length, take, drop, replicate, length-replicate, length-take}
+use lib.Seq.{length-sets, sets-eq, take-at, drop-at}
+use borrow.Author.Tests.{ne-eqb}
 use Rattle.symbology.specs.declared.Params.{Params}
 use Rattle.symbology.specs.declared.Sizes.{Sizes}
 use Rattle.symbology.specs.Ranges.{has}
 use Rattle.symbology.specs.Capacity.{sizesFor}
 use Rattle.symbology.specs.Rule.{lastWord}
 use Rattle.symbology.specs.Code.{checksFor, messageBitsFor}
-use Rattle.symbology.specs.Stream.{decode}
 use Rattle.symbology.specs.Net.{upToLastOne, streamIn}
 use Rattle.symbology.specs.Symbol.{receivedWord}
 use Rattle.symbology.proofs.Ranges.{clash}
@@ -30,7 +29,7 @@ use Rattle.calls.specs.declared.ReadAnswer.{ReadAnswer}
 use Rattle.calls.specs.Answers.{answer, noCounts, counted, refused, done, countsIn}
 use Rattle.calls.specs.Tests.{Row, firstOf, stuckWord, sizeRows, frontRows, writeRows, earlyRows, streamRows, acceptedRows, isLegal}
 use Rattle.calls.specs.Write.{writeAnswer, matrixAfterWrite, workAfter}
-use Rattle.calls.specs.Read.{messageInNet, messageInAccepted, messageIn, frontAfter, answerFromAccepted, countsOf, answerFromReceived, readAnswer, readRows}
+use Rattle.calls.specs.Read.{messageInAccepted, messageIn, frontAfter, answerFromAccepted, countsOf, answerFromReceived, readAnswer, readRows}
 use Rattle.call_laws.proofs.Tests.{Each, each-all, numbersOf, first-append, first-map, first-keeps}
 use Rattle.call_laws.proofs.Stages.{read-keeps}
 
@@ -80,11 +79,35 @@ pub record ReadAnswerIs (a : ReadAnswer) : Type 0 where
 pub read-answer : (p : Params) (l matrix : List ℕ) (work room : ℕ) → ReadAnswerIs (readAnswer p l matrix work room)
 unfolding Each has sizeRows frontRows earlyRows streamRows acceptedRows
 read-answer p l matrix work room =
-    read-keeps p l matrix work room ReadAnswerIs
-    (λ t. early 1 0 refl (inr (inr refl)), (λ t. early 2 _ refl (inl refl), (λ t. early 3 0 refl (inr (inr refl)), (λ t. early 4 0 refl (inr (inr refl)),
-    (λ t. early 5 0 refl (inr (inr refl)), (λ t. early 7 _ refl (inr (inl refl)), (λ t. early 8 0 refl (inr (inr refl)), tt)))))))
-    (λ e. (λ t. late 9 refl refl, (λ t. late 10 refl refl, (λ t. late 11 refl refl, (λ t. late 12 refl refl, (λ t. late 13 refl refl,
-    (λ t. late 14 refl refl, tt)))))))
+    read-keeps p l matrix work room ReadAnswerIs (
+      λ t. early 1 0 refl (inr (inr refl)),
+      (
+        λ t. early 2 _ refl (inl refl),
+        (
+          λ t. early 3 0 refl (inr (inr refl)),
+          (
+            λ t. early 4 0 refl (inr (inr refl)),
+            (λ t. early 5 0 refl (inr (inr refl)), (λ t. early 7 _ refl (inr (inl refl)), (λ t. early 8 0 refl (inr (inr refl)), tt))),
+          ),
+        ),
+      ),
+    )
+    (λ e. (
+      λ t. late 9 refl refl,
+      (
+        λ t. late 10 refl refl,
+        (
+          λ t. late 11 refl refl,
+          (
+            λ t. late 12 refl refl,
+            (
+              λ t. late 13 refl refl,
+              (λ t. late 14 refl refl, tt),
+            ),
+          ),
+        ),
+      ),
+    ))
     (λ e fits. record { number-is = refl; place-is = inr (inr refl); length-is = inl refl; counts-are = λ z. clash z refl })
   where
     early : (k place : ℕ)

@@ -1,7 +1,7 @@
 -- Demand 3 about the whole defined read: a read that reaches the checks mends by the rule, from the received word to the rule's end,
 -- and its answer and counts come from that run.
 -- Assumes nothing.
-use Prim.Native.Nat.{ℕ, _≤_, _<_}
+use Prim.Native.Nat.{ℕ, _<_}
 use mathlib.Core.Path.{_≡_, refl, sym, ap, _∙_, subst⁻¹}
 use mathlib.Core.Bool.{true, false}
 use mathlib.Core.List.{List}
@@ -57,9 +57,16 @@ module _ (p : Params) (l matrix before : List ℕ) (work : ℕ) (reaching : reac
   unfolding Each streamRows acceptedRows
   onward-counts =
       let Q : ReadAnswer → Type 0 = λ a. (countsIn a ≡ counts) × (a .number ≡ 9 → ⊥) in
-      accepted-keeps Q (sizesFor p l) (lastWord checks word) counts (length before)
-      (λ t. (refl, λ z. omega arith), (λ t. (refl, λ z. omega arith), (λ t. (refl, λ z. omega arith),
-      (λ t. (refl, λ z. omega arith), (λ t. (refl, λ z. omega arith), tt))))) (λ fits. (refl, λ z. omega arith))
+      accepted-keeps Q (sizesFor p l) (lastWord checks word) counts (length before) (
+        λ t. (refl, λ z. omega arith),
+        (
+          λ t. (refl, λ z. omega arith),
+          (
+            λ t. (refl, λ z. omega arith),
+            (λ t. (refl, λ z. omega arith), (λ t. (refl, λ z. omega arith), tt)),
+          ),
+        ),
+      ) (λ fits. (refl, λ z. omega arith))
 
   is-nine : stuck checks word ≡ true → answered .number ≡ 9
   is-nine t = ap (λ (a : ReadAnswer). a .number) (at-stuck t)

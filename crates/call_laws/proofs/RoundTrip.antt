@@ -3,10 +3,10 @@
 -- Assumes nothing.
 use Prim.Native.Nat.{ℕ, suc, _-_, _≤_, _<_}
 use mathlib.Core.Path.{_≡_, refl, sym, ap, _∙_}
-use mathlib.Core.Bool.{Bool, true, false, cond, not}
+use mathlib.Core.Bool.{true, false, cond}
 use mathlib.Core.List.{List, [], _∷_, _++_}
 use native.Mathlib.Omega.{arith}
-use lib.Dec.{eqb, ltb}
+use lib.Dec.{eqb}
 use lib.ListN.{length, drop, replicate}
 use lib.Seq.{drop-at}
 use borrow.Author.Tests.{eqb-true, le-ltb, lt-ltb}
@@ -17,9 +17,7 @@ use Rattle.symbology.specs.Rule.{stuck, lastWord, unmetCount}
 use Rattle.symbology.specs.Codeword.{messageColumns}
 use Rattle.symbology.specs.Code.{matrixFor, checksFor, messageBitsFor}
 use Rattle.symbology.specs.Stream.{ReadsAs}
-use Rattle.symbology.specs.Net.{stuffing}
-use Rattle.symbology.specs.Placement.{firstBadModule}
-use Rattle.symbology.specs.Symbol.{writtenMatrix, receivedBits, receivedWord, sameBits, wrongStuffing}
+use Rattle.symbology.specs.Symbol.{writtenMatrix, receivedBits, wrongStuffing}
 use Rattle.laws.proofs.Ranges.{by}
 use Rattle.laws.proofs.Net.{length-net}
 use Rattle.laws.proofs.Steps.{untouched, untouched-word, met-not-stuck}

@@ -2,10 +2,9 @@
 -- Assumes nothing.
 use Prim.Native.Nat.{ℕ, _≤_}
 use mathlib.Core.Path.{_≡_, refl, sym, ap, _∙_, subst⁻¹}
-use mathlib.Core.Bool.{true, false, not}
+use mathlib.Core.Bool.{true, false}
 use mathlib.Core.List.{List, [], _∷_, _++_}
 use native.Mathlib.Omega.{arith}
-use lib.Dec.{ltb}
 use lib.ListN.{length, take, drop, replicate}
 use lib.Seq.{take-at, drop-at}
 use borrow.Author.Tests.{ltb-false, le-ltb}
@@ -20,7 +19,6 @@ use Rattle.symbology.specs.Stream.{Decoded, decode, ReadsAs}
 use Rattle.symbology.specs.Net.{withEndMark, streamIn}
 use Rattle.symbology.specs.Symbol.{receivedWord}
 use Rattle.symbology.proofs.Ranges.{clash}
-use Rattle.laws.proofs.Ranges.{by}
 use Rattle.laws.proofs.Net.{net-back, net-some, any-zeros}
 use Rattle.calls.specs.declared.Counts.{Counts}
 use Rattle.calls.specs.declared.StreamAnswer.{StreamAnswer}

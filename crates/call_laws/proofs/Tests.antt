@@ -60,7 +60,7 @@ each-listed [] = tt
 each-listed (r ∷ rs) = (
   has-first (r .number) (numbersOf rs),
   each-map (λ s. has (s .number) (numbersOf rs) ≡ true) (λ s. has (s .number) (numbersOf (r ∷ rs)) ≡ true)
-  (λ s e. has-wider (s .number) (r .number) (numbersOf rs) e) rs (each-listed rs),
+      (λ s e. has-wider (s .number) (r .number) (numbersOf rs) e) rs (each-listed rs),
 )
 
 -- the row's test fails

@@ -19,10 +19,10 @@ use Rattle.symbology.specs.Rule.{bitSum, unmet, unmetCount, unmetAt, metAt, isS
 use Rattle.symbology.specs.Stream.{readCode, readCodes, decode, byteRuns, byteStream, byteBits, runCount, byteRun, streamOf}
 use Rattle.symbology.specs.Net.{upToLastOne, streamIn, stuffing, exceeds, withEndMark}
 use Rattle.symbology.specs.Symbol.{sameBits}
+use Rattle.symbology.proofs.Parameters.{paramsOf}
 use Rattle.calls.specs.Tests.{firstOf, sizeRows, frontRows, writeRows, earlyRows, streamRows}
 use Rattle.calls.specs.Write.{writeAnswer}
 use Rattle.calls.specs.Read.{streamAnswer, readAnswer}
-use Rattle.symbology.proofs.Parameters.{paramsOf}
 
 -- a primary symbol of these side-versions
 abbrev rectangle : ℕ → ℕ → ℕ → ℕ → ℕ → Params

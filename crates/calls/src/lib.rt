@@ -53,10 +53,7 @@ pub struct ReadAnswer {
 pub fn answered(number: u32, place: usize) -> Answer
     ensures { λ r. ⌜ r ≡ answer number place ⌝ }
 {
-    Answer {
-        number,
-        place,
-    }
+    Answer { number, place }
 }
 
 // A refusal of `sizes`: zeros for the sizes.
@@ -95,19 +92,13 @@ pub fn the_sizes(s: Sizes) -> SizesAnswer
 pub fn stream_refused(number: u32) -> StreamAnswer
     ensures { λ r. ⌜ r ≡ streamRefused number 0 ⌝ }
 {
-    StreamAnswer {
-        number,
-        length: 0,
-    }
+    StreamAnswer { number, length: 0 }
 }
 
 pub fn stream_done(length: usize) -> StreamAnswer
     ensures { λ r. ⌜ r ≡ streamDone length ⌝ }
 {
-    StreamAnswer {
-        number: 0,
-        length,
-    }
+    StreamAnswer { number: 0, length }
 }
 
 // A refusal before the checks: length and counts are 0.

@@ -12,9 +12,9 @@ ghost use mathlib.Core.Path.{_≡_};
 ghost use mathlib.Core.Bool.{true, cond, _||_};
 ghost use lib.Dec.{eqb};
 ghost use Rattle.symbology.specs.Ranges.{within, allHold};
-ghost use Rattle.capacity.specs.Groups.{sideTests, colourTests, codeTests};
 ghost use Rattle.symbology.specs.Parameters.{inRange};
 ghost use Rattle.symbology.specs.Capacity.{bitsPerModule, dataModules, asBits, sizesOf};
+ghost use Rattle.capacity.specs.Groups.{sideTests, colourTests, codeTests};
 
 // ---- test 1
 

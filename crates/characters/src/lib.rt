@@ -5,9 +5,9 @@ ghost use Prim.Native.Nat.{_≤_, _<_};
 ghost use mathlib.Core.Path.{_≡_};
 ghost use mathlib.Core.List.{[], _∷_};
 ghost use lib.ListN.{take, drop};
-ghost use Rattle.characters.specs.Bytes.{codeBytes};
 ghost use Rattle.symbology.specs.Characters.{punctuationCharacters, mixedCharacters, characterBytes};
 ghost use Rattle.symbology.specs.Modes.{charactersOf, bytesOf};
+ghost use Rattle.characters.specs.Bytes.{codeBytes};
 
 // The bytes that a code gives: the first `count` of three.
 pub struct CodeBytes {

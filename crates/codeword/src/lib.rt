@@ -2,11 +2,11 @@
 // and the check columns solved, and the message columns of a word read back.
 use lent::Areas;
 ghost use lib.ListN.{length};
+ghost use Rattle.symbology.specs.Bits.{AllBits};
 ghost use Rattle.lent.specs.Buffer.{part, Laid};
 ghost use Rattle.dense.specs.Dense.{Packed};
 ghost use Rattle.elimination.specs.Reduced.{HoldsElimination};
 ghost use Rattle.codeword.specs.Columns.{RowsEnd, ChecksZero, Placed, Solved, WordFilled, MessageRead};
-ghost use Rattle.symbology.specs.Bits.{AllBits};
 
 // Stores the net bits in the message columns, ascending, and 0 in the spare ones and the check columns.
 fn place_message(work: &mut [u8], a: Areas)

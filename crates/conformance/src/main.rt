@@ -20,10 +20,10 @@
 // same of the message buffer behind its first LENGTH bytes, and BYTES are these, in decimal. A line that
 // has another form, a number above its limit, or another wc or wr prints `bad case`. Of the input the
 // first 524,288 bytes are read.
+use calls::ReadAnswer;
 use libc::STDIN_FILENO;
 use libc::STDOUT_FILENO;
 use symbology::Params;
-use calls::ReadAnswer;
 ghost use Prim.Native.Nat.{_≤_};
 ghost use mathlib.Core.Path.{_≡_};
 ghost use mathlib.Core.Bool.{true, false};

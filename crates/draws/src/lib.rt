@@ -1,10 +1,10 @@
 // The random number generator of 002, Annex E, forwards and backwards, and the place of a draw.
 ghost use Prim.Native.Nat.{_*_, _%_, _^_, _≤_, _<_};
 ghost use mathlib.Core.Path.{_≡_};
-ghost use Rattle.draws.specs.Backwards.{previousState};
 ghost use Rattle.symbology.specs.Generator.{nextState, temper, draw, stateAfter};
 ghost use Rattle.symbology.specs.Place.{nearestSingle, placeOf};
 ghost use Rattle.symbology.specs.Shuffle.{drawnPlace};
+ghost use Rattle.draws.specs.Backwards.{previousState};
 
 // The product without its carry, from the products of 32-bit halves. That of the two upper halves
 // is all carry.

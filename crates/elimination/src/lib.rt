@@ -8,9 +8,9 @@ use lent::Areas;
 ghost use Prim.Native.Nat.{_≤_, _<_};
 ghost use mathlib.Core.Path.{_≡_};
 ghost use lib.ListN.{length};
+ghost use Rattle.symbology.specs.Ranges.{lowest};
 ghost use Rattle.lent.specs.Buffer.{Laid};
 ghost use Rattle.elimination.specs.Reduced.{isUnmarked, isFree, MarkedBefore, EndsAt, ColumnCleared, Eliminated};
-ghost use Rattle.symbology.specs.Ranges.{lowest};
 
 // The first row without a mark, and the number of rows where there is none. The rows before `from` have marks.
 fn first_unmarked(work: &[u8], a: Areas, from: usize) -> usize

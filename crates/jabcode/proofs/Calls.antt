@@ -13,7 +13,7 @@ use Rattle.calls.specs.declared.Answer.{Answer}
 use Rattle.calls.specs.declared.ReadAnswer.{ReadAnswer}
 use Rattle.calls.specs.Answers.{answer, refused}
 use Rattle.calls.specs.Tests.{firstOf, passes, noRoom, badModule, badStuffing, frontRows, writeRows, earlyRows, isLegal}
-use Rattle.calls.specs.Write.{writeAnswer, matrixAfterWrite, workAfter}
+use Rattle.calls.specs.Write.{writeAnswer}
 use Rattle.calls.specs.Read.{messageIn, answerFromReceived, readAnswer}
 use Rattle.calls.specs.Contracts.{Writes, Reads}
 use Rattle.call_laws.proofs.Tests.{first-append, first-passed, first-refuses, zero-passes, front-numbered}

@@ -2,7 +2,7 @@
 -- Assumes nothing.
 use Prim.Native.Nat.{ℕ, suc, _≤_}
 use mathlib.Core.Path.{_≡_, refl, sym, ap, ap₂, _∙_}
-use mathlib.Core.Bool.{true, cond}
+use mathlib.Core.Bool.{cond}
 use mathlib.Core.List.{List}
 use native.Mathlib.Omega.{arith}
 use lib.ListN.{length, replicate}
@@ -22,7 +22,7 @@ use Rattle.calls.specs.Answers.{refused}
 use Rattle.calls.specs.Tests.{isLegal}
 use Rattle.calls.specs.Write.{writeAnswer, matrixAfterWrite, workAfter}
 use Rattle.calls.specs.Read.{readAnswer, messageIn, frontAfter}
-use Rattle.calls.specs.Contracts.{Writes, Reads, answerReadBack, ReadsBack, WritesThenReads}
+use Rattle.calls.specs.Contracts.{Writes, Reads, answerReadBack, WritesThenReads}
 use Rattle.call_laws.proofs.Tests.{legal}
 use Rattle.call_laws.proofs.Answers.{read-answer, refused-front, work-cleared, work-untouched, length-work}
 use Rattle.call_laws.proofs.RoundTrip.{writes-and-reads, length-write}

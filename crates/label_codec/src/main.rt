@@ -15,10 +15,10 @@
 // Document 01: programs keep to symbols of C at most 1,047 with wc 3, wr 9: at most 53,964 work bytes. Another
 // wc or wr is refused with the line `100` and eleven zeros; 100 is no number of document 01. The work buffer
 // has 53,964 bytes, with which no greater C passes test 5.
+use calls::ReadAnswer;
 use libc::STDIN_FILENO;
 use libc::STDOUT_FILENO;
 use symbology::Params;
-use calls::ReadAnswer;
 ghost use Prim.Native.Nat.{_+_, _≤_, _<_};
 ghost use mathlib.Core.Path.{_≡_};
 ghost use lib.ListN.{length};

@@ -13,8 +13,8 @@ use Rattle.symbology.specs.Parameters.{inRange}
 use Rattle.symbology.specs.Sides.{columns, rows}
 use Rattle.symbology.specs.Reserved.{listVerdict}
 use Rattle.symbology.specs.Placement.{rank, moduleAt}
-use Rattle.laws.specs.Sampling.{taken}
 use Rattle.symbology.specs.Capacity.{sizesFor}
+use Rattle.laws.specs.Sampling.{taken}
 use Rattle.patterns.specs.declared.SideCores.{SideCores}
 use Rattle.patterns.specs.Cores.{coresFor}
 

@@ -17,15 +17,15 @@ ghost use mathlib.Core.Path.{_≡_};
 ghost use mathlib.Core.Bool.{true};
 ghost use lib.ListN.{length, getD, take, drop, set};
 ghost use lib.Seq.{sets};
-ghost use Rattle.patterns.specs.Cores.{coresFor};
-ghost use Rattle.layout.specs.Walk.{SizedSymbol, AtModule, FilledTo, SampledTo};
+ghost use Rattle.symbology.specs.declared.ListVerdict.the-variants.{Sound};
 ghost use Rattle.symbology.specs.Bits.{value, bits};
 ghost use Rattle.symbology.specs.Parameters.{inRange};
 ghost use Rattle.symbology.specs.Sides.{columns, rows};
 ghost use Rattle.symbology.specs.Capacity.{bitsPerModule};
 ghost use Rattle.symbology.specs.Reserved.{listVerdict};
-ghost use Rattle.symbology.specs.declared.ListVerdict.the-variants.{Sound};
 ghost use Rattle.symbology.specs.Placement.{patternCell, cellAt, rank, maskGenerators, maskAt, moduleAt, filled, bitsAt, sampled, firstBadModule};
+ghost use Rattle.patterns.specs.Cores.{coresFor};
+ghost use Rattle.layout.specs.Walk.{SizedSymbol, AtModule, FilledTo, SampledTo};
 
 // A parameter as an index; the cast of a function's own parameter asks for no proof of its range.
 fn wide(n: u32) -> usize

@@ -7,9 +7,9 @@ use symbology::Sizes;
 ghost use Prim.Native.Nat.{_≤_};
 ghost use mathlib.Core.Path.{_≡_};
 ghost use lib.ListN.{length};
+ghost use Rattle.symbology.specs.Bits.{AllBits};
 ghost use Rattle.ldpc.specs.Work.{areasOf, CodeSizes, wordFor, netFor, HoldsA};
 ghost use Rattle.ldpc.specs.Stages.{RowsBuilt, Encoded, MendedFor, MessageFor};
-ghost use Rattle.symbology.specs.Bits.{AllBits};
 
 // Where the areas of the work buffer lie.
 pub fn areas(s: Sizes) -> Areas

@@ -1,11 +1,11 @@
 -- What the tests 1 to 5 answer, one lemma for each way through them.
 -- Assumes nothing.
 use Prim.Native.Nat.{ℕ, _*_, _≤_, _<_}
-use mathlib.Core.Path.{_≡_, refl, sym, ap, _∙_}
-use mathlib.Core.Bool.{true, false, not, _||_, or-true}
+use mathlib.Core.Path.{_≡_, sym, ap, _∙_}
+use mathlib.Core.Bool.{true, false, or-true}
 use mathlib.Core.List.{List, [], _∷_}
 use native.Mathlib.Omega.{arith}
-use lib.Dec.{eqb, ltb}
+use lib.Dec.{ltb}
 use borrow.Author.Tests.{lt-ltb, le-ltb, eq-eqb, ne-eqb}
 use Rattle.symbology.specs.declared.Params.{Params}
 use Rattle.symbology.specs.declared.Sizes.{Sizes}
@@ -13,12 +13,11 @@ use Rattle.symbology.specs.declared.ListVerdict.the-variants.{Sound, Fault}
 use Rattle.symbology.specs.Parameters.{inRange}
 use Rattle.symbology.specs.Reserved.{listVerdict, listNumber, listPlace}
 use Rattle.symbology.specs.Capacity.{sizesOf, sizesFor}
-use Rattle.laws.proofs.Sizes.{LegalSymbol}
 use Rattle.calls.specs.declared.Answer.{Answer}
 use Rattle.calls.specs.Answers.{answer, noSizes, theSizes}
 use Rattle.calls.specs.Tests.{firstOf, passes, otherMatrix, shortWork, sizeRows, frontRows}
 use Rattle.calls.specs.Sizes.{sizesAnswer}
-use Rattle.call_laws.proofs.Tests.{Each, Numbered, first-append, first-passed, first-refuses, zero-passes, legal-symbol}
+use Rattle.call_laws.proofs.Tests.{Each, first-append, first-passed, first-refuses, zero-passes, legal-symbol}
 
 -- ---- the tests 1 to 3
 

@@ -7,9 +7,9 @@ use native.Mathlib.Omega.{arith}
 use native.Mathlib.Decide.{decLt}
 use lib.ListN.{length, length-append}
 use borrow.Author.Tests.{lt-ltb, le-ltb}
-use Rattle.lister.specs.Decimal.{digitsUpTo, decimal}
 use Rattle.pieces.specs.Pieces.{StoredAt}
 use Rattle.pieces.proofs.Pieces.{joined, same-piece}
+use Rattle.lister.specs.Decimal.{digitsUpTo, decimal}
 
 pub decimal-one : (n : ℕ) → n < 10 → decimal n ≡ (48 + n) ∷ []
 unfolding decimal digitsUpTo

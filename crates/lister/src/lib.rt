@@ -6,12 +6,12 @@ ghost use Prim.Native.Nat.{_+_, _≤_, _<_};
 ghost use mathlib.Core.Path.{_≡_};
 ghost use lib.ListN.{length, drop};
 ghost use lib.Seq.{sets};
+ghost use Rattle.symbology.specs.Sides.{coresOf};
+ghost use Rattle.pieces.specs.Pieces.{StoredAt};
 ghost use Rattle.lister.specs.Decimal.{decimal};
 ghost use Rattle.lister.specs.Numeral.{digitOf};
 ghost use Rattle.lister.specs.Scanning.{grown, scanned, scannedAll, scanNumber};
 ghost use Rattle.lister.specs.Listing.{numberLine, coresAfter, coresLine, sideText, listing};
-ghost use Rattle.pieces.specs.Pieces.{StoredAt};
-ghost use Rattle.symbology.specs.Sides.{coresOf};
 
 // ---- the number that a text is, read piece by piece
 

@@ -6,11 +6,11 @@ use lent::Areas;
 ghost use Prim.Native.Nat.{_<_};
 ghost use mathlib.Core.Path.{_≡_};
 ghost use lib.ListN.{length};
+ghost use Rattle.symbology.specs.Rule.{unmetCount, suspect};
 ghost use Rattle.lent.specs.Buffer.{Laid};
 ghost use Rattle.dense.specs.Dense.{Packed};
 ghost use Rattle.mending.specs.Balances.{MarkBits, Balanced, Votes, RowVoted, Levelled, Weighed, CheckTurned};
 ghost use Rattle.mending.specs.Marks.{wordIn, checksIn, BitsIn, Marked, MarksSet, WordMarked, MarksTurned, BitTurned, MendedBy};
-ghost use Rattle.symbology.specs.Rule.{unmetCount, suspect};
 
 // What mending answers: the number of repairs, that of the checks unmet at the start, and whether the
 // word is stuck.

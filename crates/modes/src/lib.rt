@@ -8,7 +8,6 @@ ghost use mathlib.Core.Path.{_≡_};
 ghost use Rattle.symbology.specs.Modes.{modeWidth, codeWidth, switchOf, modeNumber, endNumber};
 ghost use Rattle.symbology.specs.declared.Mode.the-variants.{Upper, Lower, Numeric, Alphanumeric};
 ghost use Rattle.symbology.specs.declared.Expected.the-variants.{Latched, Capital, MoreSwitches, ShortCount, Byte};
-ghost use Rattle.symbology.specs.declared.ModeAnswer.the-variants.{Next};
 
 // ---- widths
 

@@ -11,8 +11,8 @@ ghost use mathlib.Core.Path.{_≡_};
 ghost use mathlib.Core.Bool.{cond, not, _&&_, _||_};
 ghost use lib.Dec.{leb, eqb};
 ghost use lib.ListN.{length, take};
-ghost use Rattle.patterns.specs.Cores.{coresFor};
 ghost use Rattle.symbology.specs.Patterns.{nearCore, finder, cornerAlignment, innerAlignment, patternOf, offCore, inSquares, colourIn, patternColour};
+ghost use Rattle.patterns.specs.Cores.{coresFor};
 
 // The rows of Table 2 for the two sides of a symbol. A caller that asks for many modules keeps them.
 pub struct SideCores {

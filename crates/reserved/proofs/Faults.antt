@@ -12,8 +12,8 @@ use Rattle.symbology.specs.declared.ListVerdict.the-variants.{Sound, Fault}
 use Rattle.symbology.specs.Ranges.{within, lowest}
 use Rattle.symbology.specs.Sides.{columns, rows}
 use Rattle.symbology.specs.Patterns.{patternColour, covered}
-use Rattle.laws.proofs.Ranges.{by}
 use Rattle.symbology.specs.Reserved.{entries, entryColumn, entryRow, entryColour, firstEntry, badEntry, badAt, entryVerdict, listVerdict}
+use Rattle.laws.proofs.Ranges.{by}
 
 -- ---- a number and its bounds
 

@@ -12,11 +12,11 @@ ghost use Prim.Native.Nat.{_+_, _*_, _≤_, _<_};
 ghost use mathlib.Core.Path.{_≡_};
 ghost use mathlib.Core.Bool.{not, _||_};
 ghost use lib.ListN.{length};
-ghost use Rattle.patterns.specs.Cores.{coresFor};
 ghost use Rattle.symbology.specs.Patterns.{covered};
 ghost use Rattle.symbology.specs.Ranges.{within, lowest};
 ghost use Rattle.symbology.specs.Sides.{columns, rows};
 ghost use Rattle.symbology.specs.Reserved.{entryColumn, entryRow, entryColour, entryAt, firstEntry, badAt, listVerdict};
+ghost use Rattle.patterns.specs.Cores.{coresFor};
 
 fn wide(n: u16) -> usize
     ensures { λ r. ⌜ (r ≡ n) × (r < 65536) ⌝ }

@@ -6,9 +6,9 @@
 ghost use Prim.Native.Nat.{_+_, _*_, _≤_, _<_};
 ghost use mathlib.Core.Path.{_≡_};
 ghost use lib.ListN.{length};
-ghost use Rattle.shuffle.specs.Numbers.{exchangedNumbers, NumbersShuffled};
 ghost use Rattle.symbology.specs.Generator.{stateAfter};
 ghost use Rattle.symbology.specs.Shuffle.{exchanged, shuffled, unshuffled};
+ghost use Rattle.shuffle.specs.Numbers.{exchangedNumbers, NumbersShuffled};
 
 // The state from which the C bits are interleaved (002, 4.5).
 pub const INTERLEAVING_SEED: u64 = 226759;

@@ -16,12 +16,12 @@ use Rattle.symbology.specs.declared.ModeAnswer.the-variants.{Next, EndOfMessage
 use Rattle.symbology.specs.Bits.{value}
 use Rattle.symbology.specs.Modes.{codeWidth, switchOf, bytesOf, modeNumber, endNumber}
 use Rattle.symbology.specs.Stream.{Decoded, decode}
-use Rattle.characters.specs.declared.CodeBytes.{CodeBytes}
-use Rattle.characters.specs.Bytes.{codeBytes, bytesIn}
-use Rattle.characters.proofs.Bytes.{bytes-back}
 use Rattle.laws.proofs.Stream.{readFrom, readOn, decode-from, read-step, read-short, bytes-three, bytes-few}
 use Rattle.pieces.specs.Pieces.{StoredAt}
 use Rattle.pieces.proofs.Pieces.{stored-none, same-piece, joined}
+use Rattle.characters.specs.declared.CodeBytes.{CodeBytes}
+use Rattle.characters.specs.Bytes.{codeBytes, bytesIn}
+use Rattle.characters.proofs.Bytes.{bytes-back}
 use Rattle.stream_reader.specs.Reading.{StreamRead}
 
 -- the reading stands at a mode and an expected code, `at` bits on, with n bytes read and stored

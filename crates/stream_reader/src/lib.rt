@@ -9,11 +9,11 @@ use symbology::Mode;
 use symbology::ModeAnswer;
 ghost use Prim.Native.Nat.{_<_, _^_};
 ghost use mathlib.Core.Path.{_≡_};
-ghost use Rattle.characters.specs.Bytes.{bytesIn};
-ghost use Rattle.pieces.specs.Pieces.{StoredAt};
-ghost use Rattle.stream_reader.specs.Reading.{StreamRead, NetRead};
 ghost use Rattle.symbology.specs.Stream.{decode};
 ghost use Rattle.symbology.specs.Net.{upToLastOne};
+ghost use Rattle.pieces.specs.Pieces.{StoredAt};
+ghost use Rattle.characters.specs.Bytes.{bytesIn};
+ghost use Rattle.stream_reader.specs.Reading.{StreamRead, NetRead};
 
 // ---- streams
 

@@ -6,9 +6,9 @@
 ghost use Prim.Native.Nat.{_+_, _*_, _≤_, _<_, _^_};
 ghost use mathlib.Core.Path.{_≡_};
 ghost use lib.ListN.{length};
-ghost use Rattle.pieces.specs.Pieces.{StoredAt};
 ghost use Rattle.symbology.specs.Stream.{longestRun, byteBits, runCount, byteRun, byteStream, streamOf};
 ghost use Rattle.symbology.specs.Net.{withEndMark, exceeds};
+ghost use Rattle.pieces.specs.Pieces.{StoredAt};
 
 // The greatest length of a run, 15 + 8,191 bytes.
 const LONGEST_RUN: usize = 8206;

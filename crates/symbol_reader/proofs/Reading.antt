@@ -23,9 +23,9 @@ use Rattle.calls.specs.Read.{messageInAccepted, messageInNet, messageIn, frontA
 use Rattle.call_laws.proofs.Tests.{first-append, first-hit, first-miss, first-none, first-passed}
 use Rattle.call_laws.proofs.Stages.{accepted-stream, accepted-spare, from-stuck, from-mended}
 use Rattle.call_laws.proofs.Answers.{refused-front}
-use Rattle.stream_reader.specs.Reading.{NetRead}
 use Rattle.ldpc.specs.Work.{wordFor}
 use Rattle.ldpc.specs.Stages.{MendedFor}
+use Rattle.stream_reader.specs.Reading.{NetRead}
 use Rattle.symbol_reader.specs.Stages.{Answered}
 
 -- a refusal that is the defined answer, and a buffer as it came

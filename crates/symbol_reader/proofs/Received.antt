@@ -3,7 +3,7 @@
 -- Assumes nothing.
 use Prim.Native.Nat.{ℕ, _+_, _-_, _≤_}
 use mathlib.Core.Path.{_≡_, sym, ap, _∙_, subst⁻¹}
-use mathlib.Core.Bool.{Bool, true, not}
+use mathlib.Core.Bool.{Bool, not}
 use mathlib.Core.List.{List}
 use native.Mathlib.Omega.{arith}
 use lib.ListN.{length, take, drop, length-drop}
@@ -15,10 +15,10 @@ use Rattle.symbology.specs.Placement.{sampled}
 use Rattle.symbology.specs.Shuffle.{interleavingSeed}
 use Rattle.symbology.specs.Capacity.{sizesFor}
 use Rattle.symbology.specs.Symbol.{receivedBits, receivedWord, sameBits, wrongStuffing}
-use Rattle.call_laws.proofs.Tests.{Legal}
 use Rattle.laws.proofs.Shuffle.{length-unshuffled}
 use Rattle.laws.proofs.Sizes.{sampled-whole}
 use Rattle.laws.proofs.Symbols.{received-bits}
+use Rattle.call_laws.proofs.Tests.{Legal}
 use Rattle.layout.specs.Walk.{SizedSymbol}
 use Rattle.layout.proofs.Legal.{sized-symbol}
 use Rattle.lent.specs.declared.Areas.{Areas}

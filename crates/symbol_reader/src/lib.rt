@@ -12,7 +12,6 @@ ghost use Prim.Native.Nat.{_≤_};
 ghost use mathlib.Core.Path.{_≡_};
 ghost use mathlib.Core.Bool.{true, not};
 ghost use lib.ListN.{length};
-ghost use Rattle.layout.specs.Walk.{SizedSymbol};
 ghost use Rattle.symbology.specs.Bits.{AllBits};
 ghost use Rattle.symbology.specs.Rule.{lastWord};
 ghost use Rattle.symbology.specs.Net.{stuffing};
@@ -21,6 +20,7 @@ ghost use Rattle.symbology.specs.Code.{checksFor};
 ghost use Rattle.calls.specs.Tests.{isLegal};
 ghost use Rattle.calls.specs.Read.{answerFromAccepted, answerFromReceived, readAnswer, messageInAccepted, messageIn};
 ghost use Rattle.calls.specs.Contracts.{Reads};
+ghost use Rattle.layout.specs.Walk.{SizedSymbol};
 ghost use Rattle.ldpc.specs.Work.{CodeSizes, wordFor, HoldsA};
 ghost use Rattle.symbol_reader.specs.Stages.{Answered};
 

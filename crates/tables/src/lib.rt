@@ -8,8 +8,8 @@ use symbology::Bits;
 use symbology::Modules;
 ghost use Prim.Native.Nat.{_-_, _≤_, _<_};
 ghost use mathlib.Core.Path.{_≡_};
-ghost use Rattle.tables.specs.Rows.{coreRow, publishedCounts, formulaCounts};
 ghost use Rattle.symbology.specs.Sides.{sideSize, coresOf, innerPatterns};
+ghost use Rattle.tables.specs.Rows.{coreRow, publishedCounts, formulaCounts};
 
 // A row of Table 2: the core coordinates of one side-version, `len` of them, then zeros.
 pub struct CoreRow {

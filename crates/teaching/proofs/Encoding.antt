@@ -1,6 +1,6 @@
 -- What `ldpc::encode` asks for and stores, where none of the tests 1 to 3 applies.
 -- Assumes nothing.
-use Prim.Native.Nat.{ℕ, _*_, _≤_}
+use Prim.Native.Nat.{ℕ, _≤_}
 use mathlib.Core.Path.{_≡_, refl, sym, ap, ap₂, _∙_, subst, subst⁻¹}
 use mathlib.Core.Bool.{true}
 use mathlib.Core.List.{List}
@@ -8,17 +8,17 @@ use native.Mathlib.Omega.{arith}
 use lib.ListN.{length}
 use Rattle.symbology.specs.declared.Params.{Params}
 use Rattle.symbology.specs.declared.Sizes.{Sizes}
-use Rattle.calls.specs.declared.SizesAnswer.{SizesAnswer}
 use Rattle.symbology.specs.Bits.{AllBits, bitwiseSum}
 use Rattle.symbology.specs.Parameters.{inRange}
 use Rattle.symbology.specs.Capacity.{sizesFor}
-use Rattle.calls.specs.Answers.{noSizes, theSizes}
-use Rattle.calls.specs.Sizes.{sizesAnswer}
 use Rattle.symbology.specs.Code.{codewordFor}
 use Rattle.laws.proofs.Sizes.{LegalSymbol}
+use Rattle.laws.proofs.Teaching.{codeword-of-sum}
+use Rattle.calls.specs.declared.SizesAnswer.{SizesAnswer}
+use Rattle.calls.specs.Answers.{noSizes, theSizes}
+use Rattle.calls.specs.Sizes.{sizesAnswer}
 use Rattle.calls.specs.Tests.{sizeRows}
 use Rattle.call_laws.proofs.Tests.{Each, first-zero, legal-symbol}
-use Rattle.laws.proofs.Teaching.{codeword-of-sum}
 use Rattle.lent.proofs.Buffer.{length-part}
 use Rattle.ldpc.specs.Work.{areasOf, CodeSizes, wordFor, netFor}
 use Rattle.ldpc.specs.Stages.{Encoded}

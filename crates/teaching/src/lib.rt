@@ -14,8 +14,8 @@ ghost use Rattle.symbology.specs.Reserved.{listVerdict};
 ghost use Rattle.symbology.specs.Shuffle.{shuffled};
 ghost use Rattle.symbology.specs.Placement.{unmasked, masked};
 ghost use Rattle.symbology.specs.Capacity.{sizesFor};
-ghost use Rattle.calls.specs.Sizes.{sizesAnswer};
 ghost use Rattle.symbology.specs.Code.{codewordFor};
+ghost use Rattle.calls.specs.Sizes.{sizesAnswer};
 ghost use Rattle.ldpc.specs.Work.{wordFor, netFor};
 
 // The codeword of a sum is the sum of the codewords: `ldpc::encode` stores in three work buffers the codeword

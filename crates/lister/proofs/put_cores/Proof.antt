@@ -5,11 +5,11 @@ use native.Mathlib.Omega.{arith}
 use borrow.Author.Needs.{needs}
 use lib.ListN.{length, getD, drop, drop-of-length-le}
 use Rattle.symbology.specs.Sides.{coresOf}
-use Rattle.tables.specs.declared.CoreRow.{CoreRow}
 use Rattle.symbology.proofs.Sides.{cores-least, cores-most, core-most}
+use Rattle.tables.specs.declared.CoreRow.{CoreRow}
 use Rattle.tables.proofs.Cores.{core-at}
-use Rattle.lister.specs.Listing.{coresAfter}
 use Rattle.pieces.proofs.Pieces.{Left, left-all, left-none, stored-byte, stored-kept}
+use Rattle.lister.specs.Listing.{coresAfter}
 use Rattle.lister.proofs.Text.{cores-next}
 use Rattle.lister.proofs.Lengths.{cores-length}
 use Rattle.lister.proofs.put_cores.Statement.{statement}

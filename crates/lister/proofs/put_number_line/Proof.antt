@@ -1,7 +1,7 @@
 -- `lister::put_number_line` meets its contract. Assumes nothing.
 use native.Mathlib.Omega.{arith}
-use Rattle.lister.specs.Listing.{numberLine}
 use Rattle.pieces.proofs.Pieces.{joined, stored-byte}
+use Rattle.lister.specs.Listing.{numberLine}
 use Rattle.lister.proofs.Decimal.{decimal-length}
 use borrow.Author.Needs.{needs}
 use Rattle.lister.proofs.put_number_line.Statement.{statement}

@@ -4,8 +4,8 @@ use native.Mathlib.Omega.{arith}
 use lib.ListN.{length}
 use Rattle.symbology.specs.Sides.{sideSize}
 use Rattle.pieces.specs.Pieces.{StoredAt}
-use Rattle.lister.specs.Listing.{numberLine, refusedLine}
 use Rattle.pieces.proofs.Pieces.{joined, same-piece}
+use Rattle.lister.specs.Listing.{numberLine, refusedLine}
 use Rattle.lister.proofs.Text.{from-start}
 use Rattle.lister.proofs.Lengths.{text-length}
 use Rattle.lister.proofs.Listing.{refused-below, refused-above, three-lines, lines-fit}

@@ -35,8 +35,7 @@ store-matrix-requires : tie.Need-store-matrix-requires
 store-matrix-requires c κs =
     let told = c .before .before .before in
     let s = told .before .before .before .before .before .before in
-    let sizes = told .before .sizes-of .ensures in
-    (
+    let sizes = told .before .sizes-of .ensures in (
       s .pre,
       sizes,
       fits (s .args .p) (s .args .list .now) (streamOf (s .args .message .now)) (s .args .matrix .now) (length (s .args .work .now)) (s .pre)
