@@ -80,7 +80,8 @@ module _ (p : Params) (cores : SideCores) (kept : cores ≡ coresFor p) where
   -- its column is near one, and its row is not
   pub row-apart : (x y i o : ℕ) → nearRow (cores .across) x ≡ Core i o → nearRow (cores .down) y ≡ Apart → patternColour p x y ≡ Outside
   unfolding patternColour patternAt meeting
-  row-apart x y i o e d = rw (← (near-is (cores .across) (p .horizontal) across x), ← (near-is (cores .down) (p .vertical) down y), e, d)
+  row-apart x y i o e d =
+      rw (← (near-is (cores .across) (p .horizontal) across x), ← (near-is (cores .down) (p .vertical) down y), e, d)
 
   -- both are near one: the pattern there gives the colour
   pub both-near : (x y i o j u : ℕ)
@@ -88,4 +89,5 @@ module _ (p : Params) (cores : SideCores) (kept : cores ≡ coresFor p) where
       → nearRow (cores .down) y ≡ Core j u
       → patternColour p x y ≡ colourIn (patternOf (p .kind) (p .turn) (cores .across .len) (cores .down .len) i j) o u
   unfolding patternColour patternAt meeting
-  both-near x y i o j u e d = rw (← (near-is (cores .across) (p .horizontal) across x), ← (near-is (cores .down) (p .vertical) down y), e, d, across, down)
+  both-near x y i o j u e d =
+      rw (← (near-is (cores .across) (p .horizontal) across x), ← (near-is (cores .down) (p .vertical) down y), e, d, across, down)

@@ -28,7 +28,8 @@ returns : tie.Need-returns
 unfolding asBits
 returns c =
     let a = c .before .before .before .args in
-    c .wide .ensures ∙ ap (λ (b : Bits). b .0) (c .before .as-bits .ensures) ∙ ap (λ (n : ℕ). a .k * n) (c .before .before .bits-per-module .ensures)
+    c .wide .ensures ∙ ap (λ (b : Bits). b .0) (c .before .as-bits .ensures)
+    ∙ ap (λ (n : ℕ). a .k * n) (c .before .before .bits-per-module .ensures)
     ∙ mul-comm (a .k) (bitsPerModule (a .p .colours))
 
 pub bits-before-spec : {M : Type 1} → statement M

@@ -50,7 +50,8 @@ unmasked-in-requires c κs =
     let s = c .before .before .before .before .before .before .before .before .before .before in
     let d = c .before .depth-of in
     let e = sym (c .before .before .before .before .cell-at .ensures) ∙ c .before .before .enum-told .given .1 in
-    (bits-there (s .pre .0) (c .bits-before .result) (d .result) (c .bits-before .ensures) (d .ensures .0) (s .pre .1) e, omega (arith, d .ensures .1))
+    let b = c .bits-before in
+    (bits-there (s .pre .0) (b .result) (d .result) (b .ensures) (d .ensures .0) (s .pre .1) e, omega (arith, d .ensures .1))
 
 slice-write-matrix-2 : tie.Need-slice-write-matrix-2
 slice-write-matrix-2 c = search needs
@@ -72,7 +73,10 @@ returns-2 c =
     let d = c .before .before .depth-of in
     let b = c .before .bits-before in
     let e = sym (c .before .before .before .before .before .cell-at .ensures) ∙ c .before .before .before .enum-told .given .1 in
-    let held = data-module w (s .args .bits .now) (b .result) (d .result) (c .unmasked-in .result) (mask .result) (b .ensures) (d .ensures .0) (c .unmasked-in .ensures) (mask .ensures) e in
+    let v = c .unmasked-in in
+    let held =
+    data-module w (s .args .bits .now) (b .result) (d .result) (v .result) (mask .result)
+    (b .ensures) (d .ensures .0) (v .ensures) (mask .ensures) e in
     (data-next w e, ap₂ (set (s .args .matrix .now)) (c .before .before .before .before .before .before .before .index-of .ensures .0) held)
 
 pub fill-module-spec : {M : Type 1} → statement M

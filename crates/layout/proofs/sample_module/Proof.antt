@@ -70,8 +70,11 @@ returns-2 c =
     let d = c .before .before .before .before .before .before .before .depth-of in
     let mask = c .before .before .before .mask-at in
     let e = sym (c .before .before .before .before .before .before .before .before .before .before .cell-at .ensures) ∙ c .before .before .before .before .before .before .before .before .enum-told2 .given .1 in
-    let held = data-bits-are w (s .args .matrix .now) (d .result) (index .result) (mask .result) (d .ensures .0) (index .ensures .0) (mask .ensures) e in
-    (data-next w e, c .before .before .put-unmasked .ensures ∙ ap₂ (sets (s .args .out .now)) (c .before .before .before .before .before .bits-before .ensures) held)
+    let held =
+    data-bits-are w (s .args .matrix .now) (d .result) (index .result) (mask .result)
+    (d .ensures .0) (index .ensures .0) (mask .ensures) e in
+    let b = c .before .before .before .before .before .bits-before in
+    (data-next w e, c .before .before .put-unmasked .ensures ∙ ap₂ (sets (s .args .out .now)) (b .ensures) held)
 
 pub sample-module-spec : {M : Type 1} → statement M
 sample-module-spec =

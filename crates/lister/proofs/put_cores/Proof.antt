@@ -89,7 +89,10 @@ loop-again : tie.Need-loop-again Inv-loop μ-loop
 loop-again c =
     let k = core-is (c .before .before .before .before .before .before .before .before) in
     let l = c .before .before .before .before .before .before .before .before .before .before .before .loop in
-    (omega arith, omega (arith, k .1), cores-next (coresOf (c .before .before .before .before .before .before .before .before .before .before .before .before .before .before .before .args .version)) (l .i) (c .before .before .before .before .before .before .before .before .wide2 .result) (k .1) (k .0) (l .inv .2) (stored-byte (l .next) 32 (c .before .before .before .before .before .before .put .ensures)) (c .before .before .put-decimal .ensures))
+    let v = c .before .before .before .before .before .before .before .before .before .before .before .before .before .before .before .args .version in
+    let core = c .before .before .before .before .before .before .before .before .wide2 .result in
+    let space = stored-byte (l .next) 32 (c .before .before .before .before .before .before .put .ensures) in
+    (omega arith, omega (arith, k .1), cores-next (coresOf v) (l .i) core (k .1) (k .0) (l .inv .2) space (c .before .before .put-decimal .ensures))
 
 returns : tie.Need-returns Inv-loop μ-loop
 unfolding coresAfter

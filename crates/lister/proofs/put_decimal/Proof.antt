@@ -27,7 +27,8 @@ put-requires c κs = search needs
 
 add-result : tie.Need-add-result
 add-result c =
-    let h = decimal-length-two (c .before .before .before .before .before .before .before .before .before .before .before .args .n / 10) (omega arith) in
+    let a = c .before .before .before .before .before .before .before .before .before .before .before .args in
+    let h = decimal-length-two (a .n / 10) (omega arith) in
     omega (arith, c .before .before .before .before .before .before .before .put-short2 .ensures .place)
 
 same-length-2 : tie.Need-same-length-2
@@ -38,7 +39,9 @@ returns-2 c =
     let s = c .before .before .before .before .before .before .before .before .before .before .before in
     let front = c .before .before .before .before .before .before .before .put-short2 in
     let d = c .before .before .before .digit in
-    stored-three (s .args .n) (c .before .before .before .before .before .before .before .before .before .if1 .left) (s .pre .1) (d .ensures) (front .ensures) (stored-byte (front .result) (d .result) (c .before .before .put .ensures))
+    stored-three (s .args .n) (c .before .before .before .before .before .before .before .before .before .if1 .left) (s .pre .1) (d .ensures)
+    (front .ensures)
+    (stored-byte (front .result) (d .result) (c .before .before .put .ensures))
 
 pub put-decimal-spec : {M : Type 1} → statement M
 put-decimal-spec =

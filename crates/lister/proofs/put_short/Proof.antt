@@ -22,7 +22,8 @@ returns : tie.Need-returns
 returns c =
     let a = c .before .before .before .before .before .before .before .args in
     let d = c .before .before .before .digit in
-    stored-one (a .n) (c .before .before .before .before .before .if1 .taken) (d .ensures) (stored-byte (a .at) (d .result) (c .before .before .put .ensures))
+    stored-one (a .n) (c .before .before .before .before .before .if1 .taken) (d .ensures)
+    (stored-byte (a .at) (d .result) (c .before .before .put .ensures))
 
 digit-requires-2 : tie.Need-digit-requires-2
 digit-requires-2 c κs = search needs
@@ -51,8 +52,10 @@ returns-2 c =
     let at = s .args .at in
     let d = c .before .before .before .before .before .before .before .before .digit2 in
     let e = c .before .before .before .digit3 in
-    stored-two (s .args .n) (c .before .before .before .before .before .before .before .before .before .before .if1 .left) (s .pre .1) (d .ensures) (e .ensures)
-    (stored-byte at (d .result) (c .before .before .before .before .before .before .before .put2 .ensures)) (stored-byte (at + 1) (e .result) (c .before .before .put3 .ensures))
+    let two-digits = c .before .before .before .before .before .before .before .before .before .before .if1 .left in
+    stored-two (s .args .n) two-digits (s .pre .1) (d .ensures) (e .ensures)
+    (stored-byte at (d .result) (c .before .before .before .before .before .before .before .put2 .ensures))
+    (stored-byte (at + 1) (e .result) (c .before .before .put3 .ensures))
 
 pub put-short-spec : {M : Type 1} → statement M
 put-short-spec =

@@ -33,7 +33,8 @@ loop-again : tie.Need-loop-again Inv-loop μ-loop
 loop-again c =
     let text = c .before .before .before .before .before .before .before .before .before .args .text .now in
     let l = c .before .before .before .before .before .before .loop in
-    text-next text (c .before .before .before .before .before .loop-test .taken) (l .inv .1) (stored-byte (l .at) (getD text (l .at) 0) (c .before .before .put .ensures))
+    text-next text (c .before .before .before .before .before .loop-test .taken) (l .inv .1)
+    (stored-byte (l .at) (getD text (l .at) 0) (c .before .before .put .ensures))
 
 returns : tie.Need-returns Inv-loop μ-loop
 returns c = left-none (drop-of-length-le (c .before .before .before .before .args .text .now) (c .loop-test .left)) (c .before .loop .inv .1)

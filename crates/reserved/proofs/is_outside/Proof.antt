@@ -31,8 +31,9 @@ side-size-requires-2 c κs = search needs
 returns-4 : tie.Need-returns-4
 returns-4 c =
     let a = c .before .before .before .before .before .args in
+    let across = c .before .before .before .side-size in
     rw (
-      inside 1 (columns (a .p)) (a .x) (c .before .before .before .before .if1 .left) (omega (arith, c .before .before .before .side-size .ensures)),
+      inside 1 (columns (a .p)) (a .x) (c .before .before .before .before .if1 .left) (omega (arith, across .ensures)),
       over-test 1 (rows (a .p)) (a .y) (c .before .if3 .left),
       c .side-size2 .ensures,
     )

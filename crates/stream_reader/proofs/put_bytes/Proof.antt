@@ -22,12 +22,19 @@ add-second : tie.Need-add-second
 add-second c = search needs
 
 -- the first byte, and the first two
-first : (c : tie.After-put) → let a = c .before .before .before .before .before .args in StoredAt (a .b .first ∷ []) (a .at) (a .out .now) (c .put .last .0) (a .at + 1)
-first c = let a = c .before .before .before .before .before .args in stored-byte (a .at) (a .b .first) (c .put .ensures)
+first : (c : tie.After-put)
+    → let a = c .before .before .before .before .before .args in
+    StoredAt (a .b .first ∷ []) (a .at) (a .out .now) (c .put .last .0) (a .at + 1)
+first c =
+    let a = c .before .before .before .before .before .args in
+    stored-byte (a .at) (a .b .first) (c .put .ensures)
 
 two : (c : tie.After-put2)
-    → let a = c .before .before .before .before .before .before .before .before .before .before .before .args in StoredAt (a .b .first ∷ a .b .second ∷ []) (a .at) (a .out .now) (c .put2 .last .0) (a .at + 1 + 1)
-two c = let a = c .before .before .before .before .before .before .before .before .before .before .before .args in joined (first (c .before .before .before .before .before .before)) (stored-byte (a .at + 1) (a .b .second) (c .put2 .ensures))
+    → let a = c .before .before .before .before .before .before .before .before .before .before .before .args in
+    StoredAt (a .b .first ∷ a .b .second ∷ []) (a .at) (a .out .now) (c .put2 .last .0) (a .at + 1 + 1)
+two c =
+    let a = c .before .before .before .before .before .before .before .before .before .before .before .args in
+    joined (first (c .before .before .before .before .before .before)) (stored-byte (a .at + 1) (a .b .second) (c .put2 .ensures))
 
 same-length : tie.Need-same-length
 same-length c = search needs
@@ -61,7 +68,8 @@ returns-4 c =
     let a = c .before .before .before .before .before .before .before .before .before .before .before .before .before .before .before .before .before .before .before .args in
     let b = a .b in
     same-piece (sym (take-all (b .count) (b .first ∷ b .second ∷ b .third ∷ []) (omega arith)))
-    (joined (two (c .before .before .before .before .before .before .before .before)) (stored-byte (a .at + 1 + 1) (b .third) (c .before .before .put3 .ensures)))
+    (joined (two (c .before .before .before .before .before .before .before .before))
+    (stored-byte (a .at + 1 + 1) (b .third) (c .before .before .put3 .ensures)))
 
 pub put-bytes-spec : {M : Type 1} → statement M
 put-bytes-spec =
