@@ -75,19 +75,27 @@ fn print_interleaving(work: &mut [u8], n: usize, shown: usize)
     print_numbers(work, shown);
 }
 
-// Undoes the interleaving of the first n numbers.
-fn print_undone(work: &mut [u8], n: usize)
-    requires { ⌜ (length (now work) ≡ 53964) × (n ≤ 1047) ⌝ }
-{
-    shuffle::unshuffle_numbers(work, 0, n, shuffle::INTERLEAVING_SEED);
-    print_numbers(work, n);
+fn print_bytes(bytes: &[u8]) {
+    let mut i = 0;
+    while i < bytes.len() {
+        print_line(bytes[i] as usize);
+        i += 1;
+    }
+}
+
+// Interleaves ten bytes, and undoes it.
+fn print_ten() {
+    let mut bytes: [u8; 10] = [0, 1, 2, 3, 4, 5, 6, 7, 8, 9];
+    shuffle::shuffle(&mut bytes, shuffle::INTERLEAVING_SEED);
+    print_bytes(&bytes);
+    shuffle::unshuffle(&mut bytes, shuffle::INTERLEAVING_SEED);
+    print_bytes(&bytes);
 }
 
 fn main() {
     let mut space = [0u8; 53964];
     let work: &mut [u8] = &mut space;
     print_rows(work);
-    print_interleaving(work, 10, 10);
-    print_undone(work, 10);
+    print_ten();
     print_interleaving(work, 1047, 6);
 }
