@@ -27,6 +27,7 @@ pub record Row : Type 0 where
   pub number : ℕ
   pub place : ℕ
 
+-- a row of them
 abbrev pub row : Bool → ℕ → ℕ → Row
 row t number place = record { test = t; number = number; place = place }
 

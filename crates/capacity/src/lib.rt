@@ -2,7 +2,7 @@
 // ranges of the parameters, the number of data modules, the capacity and the sizes of the code.
 //
 // `in_range` and `bits_per_module` answer every input; the others serve the crates above and ask for what
-// `in_range` has shown.
+// `in_range` has shown, `as_bits` for counts in the bounds that follow from it.
 use symbology::Bits;
 use symbology::Modules;
 use symbology::Params;

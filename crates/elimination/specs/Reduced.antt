@@ -53,8 +53,8 @@ pub record ColumnCleared (a : Areas) (pivot j : ℕ) (before after : List ℕ) :
 
 -- The columns from j on of the matrix m are eliminated in the buffer. A column from j on has a pivot row exactly where it is a check
 -- column of m, and the number of rows where it is none; a mark is 1 for a pivot row and 0 else. The papers leave open which row is the
--- pivot row of a check column, what the rows become and what stands past the last column: of these it is said what solving needs, the
--- law `Inv`.
+-- pivot row of a check column, what the rows become and what stands past the last column: of these it is said what solving needs,
+-- `Inv`.
 pub record EliminatedFrom (a : Areas) (m : BitMatrix) (j : ℕ) (work : List ℕ) : Type 0 where
   pub reduced : Inv (a .checks) (a .gross) m (isCheckColumn (a .checks) (a .gross) m)
       (denseBits work (a .stride)) (isUsed a work) (rowOf a work) j

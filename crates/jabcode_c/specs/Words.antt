@@ -1,4 +1,4 @@
--- The C interface: parameters as an array of `uint32_t`, answers as arrays of `uint64_t`.
+-- The C interface: parameters and answers as the arrays of their members, which is how the structs of include/jabcode.h lie in memory.
 -- Assumes nothing.
 use Prim.Native.Nat.{ℕ}
 use mathlib.Core.List.{List, [], _∷_}

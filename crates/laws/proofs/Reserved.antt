@@ -8,15 +8,15 @@ use mathlib.Core.List.{List}
 use native.Mathlib.Omega.{arith}
 use lib.Dec.{leb, ltb, eqb}
 use lib.ListN.{length}
-use borrow.Author.Tests.{leb-true, leb-false, eqb-true, ltb-true, ltb-false, le-ltb, eq-eqb, ne-eqb, not-false}
+use borrow.Author.Tests.{leb-true, leb-false, eqb-true, ltb-false, le-ltb, eq-eqb, ne-eqb, not-false}
 use Rattle.symbology.specs.declared.Params.{Params}
 use Rattle.symbology.specs.declared.ListVerdict.the-variants.{Sound, Fault}
 use Rattle.symbology.specs.Ranges.{within, lowest}
 use Rattle.symbology.specs.Sides.{columns, rows}
 use Rattle.symbology.specs.Patterns.{covered, patternColour}
-use Rattle.symbology.specs.Reserved.{entries, entryColumn, entryRow, entryColour, entryAt, firstEntry, badEntry, badAt, entryVerdict, listVerdict, listPlace}
+use Rattle.symbology.specs.Reserved.{entries, entryColumn, entryRow, entryColour, entryAt, firstEntry, badEntry, badAt, entryVerdict, listVerdict}
 use Rattle.symbology.proofs.Ranges.{clash, and-left, and-right}
-use Rattle.laws.proofs.Ranges.{by, and-both, or-left, or-right, lowest-before, lowest-more}
+use Rattle.laws.proofs.Ranges.{and-both, or-left, or-right, lowest-before, lowest-more}
 
 -- entry k lies inside the symbol, on no pattern, at a place that no earlier entry names, with a colour below N
 pub record SoundEntry (p : Params) (l : List ℕ) (k : ℕ) : Type 0 where
@@ -84,22 +84,6 @@ verdict-parts p l = go (eqb (length l % 3) 0) (leb (entries l) 1024) (eqb-true (
     go true true f g h = (f refl, g refl, verdict-none (lowest (badAt p l) (entries l) 0) (entries l) h)
     go true false f g h = absurd (fault-sound 1024 h)
     go false b f g h = absurd (fault-sound (entries l) h)
-
--- the place of a fault among n entries
-place-in : (place n : ℕ) → listPlace (entryVerdict place n) ≤ n
-unfolding entryVerdict listPlace
-place-in place n = by (ltb place n) (λ e. rw e (omega (arith, ltb-true place n e))) (λ e. rw e (omega arith))
-
--- The place of a list's fault is at most its number of whole entries.
-pub place-most : (p : Params) (l : List ℕ) → listPlace (listVerdict p l) ≤ entries l
-unfolding listVerdict listPlace
-place-most p l = go (eqb (length l % 3) 0) (leb (entries l) 1024) (leb-false (entries l) 1024)
-  where
-    go : (a b : Bool) → (b ≡ false → 1024 < entries l)
-        → listPlace (cond a (cond b (entryVerdict (lowest (badAt p l) (entries l) 0) (entries l)) (Fault 1024)) (Fault (entries l))) ≤ entries l
-    go true true f = place-in (lowest (badAt p l) (entries l) 0) (entries l)
-    go true false f = omega (arith, f refl)
-    go false b f = omega arith
 
 -- A list that passes test 2 has whole entries, at most 1,024, and each of them is sound.
 pub sound-list : (p : Params) (l : List ℕ) → listVerdict p l ≡ Sound → SoundList p l

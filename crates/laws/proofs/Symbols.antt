@@ -26,7 +26,7 @@ use Rattle.symbology.specs.Rule.{unmetCount}
 use Rattle.symbology.specs.Codeword.{messageColumns}
 use Rattle.symbology.specs.Symbol.{receivedBits, receivedWord, sameBits}
 use Rattle.symbology.proofs.Ranges.{clash, and-left, and-right}
-use Rattle.laws.proofs.Ranges.{length-tabulate, getD-tabulate, has-those, Ascending}
+use Rattle.laws.proofs.Ranges.{getD-tabulate, has-those, Ascending}
 use Rattle.laws.proofs.Bits.{take-bits}
 use Rattle.laws.proofs.Counting.{number-ext}
 use Rattle.laws.proofs.Reserved.{sound-list}
@@ -34,7 +34,7 @@ use Rattle.laws.proofs.DataModules.{free, data-free, data-count}
 use Rattle.laws.proofs.Placement.{filled-below, sampled-filled, sampled-bits}
 use Rattle.laws.proofs.Shuffle.{length-unshuffled, unshuffled-every}
 use Rattle.laws.proofs.Matrix.{column-weight, check-weight}
-use Rattle.laws.proofs.Rule.{AllOnce, checks-once, check-ascends, unmet-most}
+use Rattle.laws.proofs.Rule.{AllOnce, checks-once, check-ascends}
 use Rattle.laws.proofs.Sizes.{LegalSymbol, capacity-is, sampled-whole, gross-most, net-fits}
 use Rattle.laws.proofs.Codeword.{IsCodeword, codeword-is, codeword-found, message-back}
 
@@ -147,11 +147,6 @@ length-received p l matrix k =
 pub symbol-once : (s : Sizes) → AllOnce (checksFor s)
 unfolding checksFor
 symbol-once s = checks-once (s .checks) (s .gross) _
-
--- and at most K of them are unmet
-pub symbol-unmet : (s : Sizes) (w : List ℕ) → unmetCount (checksFor s) w ≤ s .checks
-unfolding checksFor checksOf
-symbol-unmet s w = omega (arith, unmet-most (checksFor s) w, length-tabulate (s .checks) (checkOf (s .gross) (matrixFor s)))
 
 -- the comparison of test 8 holds of equal lists
 pub same-self : (bs : List ℕ) → sameBits bs bs ≡ true

@@ -1,4 +1,5 @@
-// Areas of a lent buffer: where those of the work buffer lie, numbers of two bytes, and clearing.
+// Areas of a lent buffer, numbers of two bytes in it, and clearing. Where the areas of the work buffer lie
+// for the sizes of a symbol is said by `ldpc::areas`.
 //
 // Two parts of one buffer cannot be lent at once where one of them is stored to. So the functions of
 // error correction take the whole work buffer and the places of their areas, and each says where it

@@ -20,6 +20,7 @@ use Rattle.calls.specs.Answers.{streamRefused, streamDone}
 use Rattle.calls.specs.Tests.{firstOf, streamRows}
 use Rattle.calls.specs.Read.{messageInNet, frontAfter, streamAnswer}
 use Rattle.call_laws.proofs.Answers.{refused-front}
+use Rattle.stream_reader.specs.declared.StreamCount.{StreamCount}
 use Rattle.stream_reader.specs.Reading.{StreamRead, NetRead}
 
 -- a pass over an empty part of the buffer leaves the buffer
@@ -31,7 +32,7 @@ part-kept before bytes {last} e = none last (omega (arith, ap length e, length-s
     none (x ∷ l) h = absurd (omega arith)
 
 -- what is known after the first pass: there is an end mark, and the stream before it was read into an empty buffer
-pub record Counted (net : List ℕ) (end : ℕ) (last : List ℕ) (r : StreamAnswer) : Type 0 where
+pub record Counted (net : List ℕ) (end : ℕ) (last : List ℕ) (r : StreamCount) : Type 0 where
   pub end-is : end ≡ upToLastOne net
   pub some : end ≡ 0 → ⊥
   pub first : StreamRead (decode (take (end - 1) net)) [] last r
@@ -53,7 +54,7 @@ module _ (net : List ℕ) (room : ℕ) (before : List ℕ) where
   unfolding streamAnswer streamRows firstOf
   all-zero is none e = refusing (λ z. omega arith) e refl (rw (upTo-none net (sym is ∙ none)))
 
-  module _ {end : ℕ} {last : List ℕ} {r : StreamAnswer} (c : Counted net end last r) where
+  module _ {end : ℕ} {last : List ℕ} {r : StreamCount} (c : Counted net end last r) where
     marked : anyOne net ≡ true
     marked = by (anyOne net) (λ e. e) (λ e. absurd (c .some (c .end-is ∙ none-upTo net e)))
 
@@ -63,8 +64,8 @@ module _ (net : List ℕ) (room : ℕ) (before : List ℕ) where
     number-is : r .number ≡ decode (streamIn net) .number
     number-is = c .first .number-is ∙ ap (λ (s : List ℕ). decode s .number) (stream-is net (c .end-is))
 
-    length-is : r .length ≡ length (messageInNet net)
-    length-is = c .first .length-is ∙ ap (λ (s : List ℕ). length (decode s .bytes)) (stream-is net (c .end-is))
+    length-is : r .count ≡ length (messageInNet net)
+    length-is = c .first .count-is ∙ ap (λ (s : List ℕ). length (decode s .bytes)) (stream-is net (c .end-is))
 
     -- the stream's number is one of 12 and 13, each of which has its row
     stream-number : (n : ℕ) → n ≡ decode (streamIn net) .number → (n ≡ 0 → ⊥) → (n ≡ 0) ⊎ (n ≡ 12) ⊎ (n ≡ 13)
@@ -78,19 +79,19 @@ module _ (net : List ℕ) (room : ℕ) (before : List ℕ) where
     bad-code h e =
         refusing h e kept (stream-number (r .number) number-is h (rw number-is (decode-number (streamIn net))))
 
-    pub no-room : {a : StreamAnswer} → r .number ≡ 0 → room < r .length → a ≡ streamRefused 14 0 → NetRead net room before (last ++ before) a
+    pub no-room : {a : StreamAnswer} → r .number ≡ 0 → room < r .count → a ≡ streamRefused 14 0 → NetRead net room before (last ++ before) a
     unfolding streamAnswer streamRows firstOf
     no-room z h e =
         let more : room < length (messageInNet net) = omega (arith, length-is) in
         refusing (λ k. omega arith) e kept (rw (marked, sym number-is, z, lt-ltb room (length (messageInNet net)) more))
 
-    pub message-read : {a : StreamAnswer} {after : List ℕ} {second : StreamAnswer} → r .number ≡ 0 → r .length ≤ room
-        → StreamRead (decode (take (end - 1) net)) (last ++ before) after second → a ≡ streamDone (second .length)
+    pub message-read : {a : StreamAnswer} {after : List ℕ} {second : StreamCount} → r .number ≡ 0 → r .count ≤ room
+        → StreamRead (decode (take (end - 1) net)) (last ++ before) after second → a ≡ streamDone (second .count)
         → NetRead net room before after a
     unfolding streamAnswer streamRows firstOf frontAfter
     message-read {a} {after} {second} z h read e =
         let bytes : List ℕ = messageInNet net in
         let fits : length bytes ≤ room = omega (arith, length-is) in
-        let long : second .length ≡ length bytes = read .length-is ∙ ap (λ (s : List ℕ). length (decode s .bytes)) (stream-is net (c .end-is)) in
+        let long : second .count ≡ length bytes = read .count-is ∙ ap (λ (s : List ℕ). length (decode s .bytes)) (stream-is net (c .end-is)) in
         let stored : after ≡ sets before 0 bytes = read .stored ∙ rw (stream-is net (c .end-is), kept) in
         record { answer-is = e ∙ rw (marked, sym number-is, z, long, le-ltb room (length bytes) fits); message-is = stored ∙ rw e refl }

@@ -49,8 +49,8 @@ no-other (inr (inr (inr h))) = omega arith
 
 -- what a stream gave, with its bytes stored
 given : {d : Decoded} {before after : List ℕ} {n number : ℕ} (d′ : Decoded) → d ≡ d′ → number ≡ d′ .number
-    → StoredAt (d′ .bytes) 0 before after n → StreamRead d before after (record { number = number; length = n })
-given d′ e k s = rw e (record { number-is = k; length-is = omega (arith, s .place); stored = s .stored })
+    → StoredAt (d′ .bytes) 0 before after n → StreamRead d before after (record { number = number; count = n })
+given d′ e k s = rw e (record { number-is = k; count-is = omega (arith, s .place); stored = s .stored })
 
 -- the start
 pub stands-first : (stream before : List ℕ) → Stands stream before Upper Latched 0 0 before
@@ -60,7 +60,7 @@ stands-first stream before =
 module _ {stream before after : List ℕ} {m : Mode} {e : Expected} {at n : ℕ} (s : Stands stream before m e at n after) where
   -- the end of the stream
   pub stands-short : {w number : ℕ} → w ≡ codeWidth m e → length stream - at < w → number ≡ endNumber e (length stream - at)
-      → StreamRead (decode stream) before after (record { number = number; length = n })
+      → StreamRead (decode stream) before after (record { number = number; count = n })
   stands-short width h k =
       let left : length (drop at stream) ≡ length stream - at = length-drop at stream in
       given (record { number = endNumber e (length (drop at stream)); bytes = s .read })
@@ -93,7 +93,7 @@ module _ {stream before after : List ℕ} {m : Mode} {e : Expected} {at n : ℕ}
         }
 
     pub stands-stop : {number : ℕ} (a : ModeAnswer) → a ≡ switchOf m e v → ((m′ : Mode) (e′ : Expected) → a ≡ Next m′ e′ → ⊥)
-        → number ≡ modeNumber a → StreamRead (decode stream) before later (record { number = number; length = n′ })
+        → number ≡ modeNumber a → StreamRead (decode stream) before later (record { number = number; count = n′ })
     stands-stop a from other k =
         given (record { number = modeNumber a; bytes = s .read ++ bytesOf m e v })
         (code-read ∙ rw (sym from) (stops a other)) k bytes-stored

@@ -8,11 +8,12 @@ use lib.Seq.{sets}
 use Rattle.symbology.specs.Stream.{Decoded}
 use Rattle.calls.specs.declared.StreamAnswer.{StreamAnswer}
 use Rattle.calls.specs.Read.{messageInNet, frontAfter, streamAnswer}
+use Rattle.stream_reader.specs.declared.StreamCount.{StreamCount}
 
--- the number and the length of what the stream gave, and its bytes over the front of the buffer as far as that reaches
-pub record StreamRead (d : Decoded) (before after : List ℕ) (a : StreamAnswer) : Type 0 where
+-- the number and the count of what the stream gave, and its bytes over the front of the buffer as far as that reaches
+pub record StreamRead (d : Decoded) (before after : List ℕ) (a : StreamCount) : Type 0 where
   pub number-is : a .number ≡ d .number
-  pub length-is : a .length ≡ length (d .bytes)
+  pub count-is : a .count ≡ length (d .bytes)
   pub stored : after ≡ sets before 0 (d .bytes)
 
 -- net bits read, with room for so many bytes

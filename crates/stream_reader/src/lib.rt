@@ -17,6 +17,12 @@ ghost use Rattle.stream_reader.specs.Reading.{StreamRead, NetRead};
 
 // ---- streams
 
+// What a stream gave: document 01's number, 0, 12 or 13, and how many bytes until there.
+pub struct StreamCount {
+    pub number: u32,
+    pub count: usize,
+}
+
 // Stores the bytes of a code.
 fn put_bytes(out: &mut [u8], at: usize, b: CodeBytes) -> usize
     requires { ⌜ at < 2 ^ 63 ⌝ }
@@ -39,9 +45,8 @@ fn put_bytes(out: &mut [u8], at: usize, b: CodeBytes) -> usize
     third + 1
 }
 
-// Reads a stream from uppercase mode, code by code, and stores its bytes as far as the buffer reaches. The
-// length is that of the bytes read, also where a code is refused.
-pub fn read_stream(stream: &[u8], out: &mut [u8]) -> StreamAnswer
+// Reads a stream from uppercase mode, code by code, and stores its bytes as far as the buffer reaches.
+pub fn read_stream(stream: &[u8], out: &mut [u8]) -> StreamCount
     ensures { λ r. ⌜ StreamRead (decode (now (stream .entry))) (now (out .entry)) (now (out .exit)) r ⌝ }
 {
     let mut mode = Mode::Upper;
@@ -52,9 +57,9 @@ pub fn read_stream(stream: &[u8], out: &mut [u8]) -> StreamAnswer
         let width = modes::code_width(mode, expected);
         let left = stream.len() - at;
         if left < width {
-            return StreamAnswer {
+            return StreamCount {
                 number: modes::end_number(expected, left),
-                length: count,
+                count,
             };
         }
         let v = bitfield::bits_value(stream, at, width);
@@ -62,9 +67,9 @@ pub fn read_stream(stream: &[u8], out: &mut [u8]) -> StreamAnswer
         at += width;
         let answer = modes::switch_of(mode, expected, v);
         let ModeAnswer::Next(next, owed) = answer else {
-            return StreamAnswer {
+            return StreamCount {
                 number: modes::mode_number(answer),
-                length: count,
+                count,
             };
         };
         mode = next;
@@ -103,9 +108,9 @@ pub fn read_net(net: &[u8], room: usize, message: &mut [u8]) -> StreamAnswer
     if first.number != 0 {
         return calls::stream_refused(first.number);
     }
-    if room < first.length {
+    if room < first.count {
         return calls::stream_refused(14);
     }
     let second = read_stream(&net[..mark], message);
-    calls::stream_done(second.length)
+    calls::stream_done(second.count)
 }

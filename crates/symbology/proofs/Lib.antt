@@ -1,4 +1,4 @@
--- What is proved of the definitions where they stand: by computed tests, Tables 1 and 2, document 01's points and worked examples.
+-- What is proved of the definitions where they stand: by computed tests, Tables 1 and 2 and the papers' worked examples.
 pub mod Ranges
 pub mod Parameters
 pub mod Sides

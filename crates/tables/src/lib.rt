@@ -230,19 +230,19 @@ const TABLE_1: [[u32; 8]; 32] = [
 ];
 
 // Data modules and capacity of one symbol.
-pub struct Counts {
+pub struct SquareCounts {
     pub modules: Modules,
     pub bits: Bits,
 }
 
 // The published counts of the square symbol of a side-version, by column of Table 1. They are those
 // that the formulas give.
-pub fn square_counts(version: usize, column: usize) -> Counts
+pub fn square_counts(version: usize, column: usize) -> SquareCounts
     requires { ⌜ (1 ≤ version) × (version ≤ 32) × (column < 4) ⌝ }
     ensures { λ r. ⌜ (r ≡ publishedCounts version column) × (r ≡ formulaCounts version column) ⌝ }
 {
     let row = TABLE_1[version - 1];
-    Counts {
+    SquareCounts {
         modules: Modules(row[column]),
         bits: Bits(row[column + 4]),
     }
