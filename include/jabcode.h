@@ -48,7 +48,7 @@ typedef struct {
  *
  * A matrix has one byte a module, a colour index, row after row from the upper left. */
 
-/* The numbers of an answer. The lowest that applies is given.
+/* The numbers of an answer. The lowest that applies is given, and of 12 and 13 the one met first in the stream.
  *
  *    0  done
  *    1  a parameter is outside its range

@@ -225,16 +225,17 @@ static void many_modules_turned(void) {
 }
 
 /* a write and a read that one of the tests 1 to 5 refuses: same answer, and every buffer as it came */
-static void refused_early(const char *what, jab_params params, size_t numbers, size_t modules, size_t room, uint64_t number, uint64_t place) {
+static void refused_early(const char *what, jab_params params, size_t numbers, size_t modules, size_t work_len, uint64_t number,
+                          uint64_t place) {
     uint8_t bytes[10] = {0};
     jab_write_answer written;
     jab_read_answer read;
     memset(work, FILL, sizeof work);
     memset(matrix, FILL, sizeof matrix);
     memset(message, FILL, sizeof message);
-    jab_write(&params, list, numbers, bytes, sizeof bytes, matrix, modules, work, room, &written);
+    jab_write(&params, list, numbers, bytes, sizeof bytes, matrix, modules, work, work_len, &written);
     expect_write(what, written, number, place);
-    jab_read(&params, list, numbers, matrix, modules, work, room, message, ROOM, &read);
+    jab_read(&params, list, numbers, matrix, modules, work, work_len, message, ROOM, &read);
     expect_read(what, read, (jab_read_answer){.number = number, .place = place});
     must(what, all(work, sizeof work, FILL) && all(matrix, sizeof matrix, FILL) && all(message, sizeof message, FILL));
 }

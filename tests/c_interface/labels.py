@@ -14,8 +14,10 @@ def record(name, kind, *members):
     return type(name, (ctypes.Structure,), {"_fields_": [(member, kind) for member in members]})
 
 
-Params = record("jab_params", ctypes.c_uint32, "kind", "horizontal", "vertical", "colours", "black", "cyan", "yellow", "wc", "wr", "mask", "turn")
-SizesAnswer = record("jab_sizes_answer", ctypes.c_uint64, "number", "place", "columns", "rows", "capacity", "net", "work", "gross", "checks")
+Params = record("jab_params", ctypes.c_uint32,
+                "kind", "horizontal", "vertical", "colours", "black", "cyan", "yellow", "wc", "wr", "mask", "turn")
+SizesAnswer = record("jab_sizes_answer", ctypes.c_uint64,
+                     "number", "place", "columns", "rows", "capacity", "net", "work", "gross", "checks")
 WriteAnswer = record("jab_write_answer", ctypes.c_uint64, "number", "place")
 ReadAnswer = record("jab_read_answer", ctypes.c_uint64, "number", "place", "length", "repairs", "unmet")
 

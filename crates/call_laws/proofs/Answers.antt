@@ -31,7 +31,7 @@ use Rattle.calls.specs.Tests.{Row, firstOf, stuckWord, sizeRows, frontRows, wri
 use Rattle.calls.specs.Write.{writeAnswer, matrixAfterWrite, workAfter}
 use Rattle.calls.specs.Read.{messageInAccepted, messageIn, frontAfter, answerFromAccepted, countsOf, answerFromReceived, readAnswer, readRows}
 use Rattle.call_laws.proofs.Tests.{Each, each-all, numbersOf, first-append, first-map, first-keeps}
-use Rattle.call_laws.proofs.Stages.{read-keeps}
+use Rattle.call_laws.proofs.Stages.{accepted-table, read-keeps}
 
 -- ---- document 01, "Numbers returned"
 
@@ -54,16 +54,20 @@ headOf a = answer (a .number) (a .place)
 -- Number and place of a read are those of the first row whose test holds, and 0 where none does.
 pub read-table : (p : Params) (l matrix : List ℕ) (work room : ℕ)
     → headOf (readAnswer p l matrix work room) ≡ firstOf answer (readRows p l matrix work room) (answer 0 0)
-unfolding readAnswer readRows answerFromReceived answerFromAccepted firstOf
+unfolding readAnswer readRows answerFromReceived
 read-table p l matrix work room =
     let s : Sizes = sizesFor p l in
     let w : List ℕ = receivedWord p l matrix in
     let c : Counts = countsOf s w in
+    let last : List ℕ = lastWord (checksFor s) w in
     let early : List Row = earlyRows p l matrix work in
-    let late : List Row = stuckWord s w ∷ acceptedRows s (lastWord (checksFor s) w) room in
-    let m : List ℕ = messageInAccepted s (lastWord (checksFor s) w) in
-    first-map refused headOf early (firstOf (counted c) late (done c (length m)))
-    ∙ ap (firstOf answer early) (first-map (counted c) headOf late (done c (length m)))
+    let late : List Row = stuckWord s w ∷ acceptedRows s last room in
+    let d : ReadAnswer = done c (length (messageInAccepted s last)) in
+    first-map refused headOf early (firstOf (counted c) (stuckWord s w ∷ []) (answerFromAccepted s last c room))
+    ∙ ap (λ (a : ReadAnswer). firstOf answer early (headOf (firstOf (counted c) (stuckWord s w ∷ []) a))) (accepted-table s last c room)
+    ∙ ap (λ (a : ReadAnswer). firstOf answer early (headOf a))
+    (sym (first-append (counted c) (stuckWord s w ∷ []) (acceptedRows s last room) d))
+    ∙ ap (firstOf answer early) (first-map (counted c) headOf late d)
     ∙ sym (first-append answer early late (answer 0 0))
 
 -- ---- which answers there are
@@ -149,8 +153,9 @@ read-length p l matrix work room =
 pub read-fits : (p : Params) (l matrix : List ℕ) (work room : ℕ) → readAnswer p l matrix work room .length ≤ room
 read-fits p l matrix work room =
     let Q : ReadAnswer → Type 0 = λ a. a .length ≤ room in
+    let c : Counts = countsOf (sizesFor p l) (receivedWord p l matrix) in
     read-keeps p l matrix work room Q (each-all (λ r. r .test ≡ true → Q (refused (r .number) (r .place))) (λ r t. omega arith) _)
-    (λ e. each-all (λ r. r .test ≡ true → Q (counted (countsOf (sizesFor p l) (receivedWord p l matrix)) (r .number) (r .place))) (λ r t. omega arith) _)
+    (λ e. each-all (λ r. r .test ≡ true → Q (counted c (r .number) (r .place))) (λ r t. omega arith) _)
     (λ e fits. fits)
 
 -- The message of any matrix has at most Pn bytes.
@@ -171,8 +176,22 @@ pub record WriteAnswerIs (a : Answer) : Type 0 where
 pub write-answer : (p : Params) (l stream : List ℕ) (modules work : ℕ) → WriteAnswerIs (writeAnswer p l stream modules work)
 unfolding Each has sizeRows frontRows writeRows writeAnswer
 write-answer p l stream modules work =
-    first-keeps answer WriteAnswerIs (writeRows p l stream modules work) (answer 0 0)
-    (λ t. is 1 refl, (λ t. record { number-is = refl; place-is = inl refl }, (λ t. is 3 refl, (λ t. is 4 refl, (λ t. is 5 refl, (λ t. is 6 refl, tt))))))
+    first-keeps answer WriteAnswerIs (writeRows p l stream modules work) (answer 0 0) (
+      λ t. is 1 refl,
+      (
+        λ t. record { number-is = refl; place-is = inl refl },
+        (
+          λ t. is 3 refl,
+          (
+            λ t. is 4 refl,
+            (
+              λ t. is 5 refl,
+              (λ t. is 6 refl, tt),
+            ),
+          ),
+        ),
+      ),
+    )
     (λ e. is 0 refl)
   where
     is : (k : ℕ) → has k (0 ∷ 1 ∷ 2 ∷ 3 ∷ 4 ∷ 5 ∷ 6 ∷ []) ≡ true → WriteAnswerIs (answer k 0)
@@ -193,7 +212,9 @@ unfolding frontAfter
 refused-front number stored before differs = rw (ne-eqb number 0 differs) refl
 
 -- On 0 what is stored, where it fits, stands over the front.
-pub done-front : (stored before : List ℕ) → length stored ≤ length before → frontAfter 0 stored before ≡ stored ++ drop (length stored) before
+pub done-front : (stored before : List ℕ)
+    → length stored ≤ length before
+    → frontAfter 0 stored before ≡ stored ++ drop (length stored) before
 unfolding frontAfter
 done-front stored before fits = sets-eq stored before 0 (omega arith) ∙ rw (zero-add (length stored)) refl
 
@@ -217,7 +238,9 @@ done-read p l matrix before work e =
     let after : frontAfter (a .number) m before ≡ m ++ end = ap (λ (n : ℕ). frontAfter n m before) e ∙ done-front m before (long .1) in (
       length-front (a .number) m before,
       ap (λ (x : List ℕ). take (a .length) x) after ∙ take-at m end (a .length) (sym (long .0)),
-      ap (λ (x : List ℕ). drop (a .length) x) after ∙ drop-at m end (a .length) (sym (long .0)) ∙ ap (λ (k : ℕ). drop k before) (sym (long .0)),
+      ap (λ (x : List ℕ). drop (a .length) x) after
+          ∙ drop-at m end (a .length) (sym (long .0))
+          ∙ ap (λ (k : ℕ). drop k before) (sym (long .0)),
     )
 
 -- A call that passes test 5 leaves the work buffer all zero, its length as it was.

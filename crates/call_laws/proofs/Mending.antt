@@ -109,7 +109,8 @@ mends p l matrix before work reaching =
     let w : List ℕ = receivedWord p l matrix in
     let once : AllOnce cs = symbol-once (sizesFor p l) in
     let bits : AllBits w = received-bits p l matrix in
-    let same : countsIn (readAnswer p l matrix work (length before)) ≡ countsOf (sizesFor p l) w = reported p l matrix before work reaching in
+    let same : countsIn (readAnswer p l matrix work (length before)) ≡ countsOf (sizesFor p l) w =
+    reported p l matrix before work reaching in
     let repairs : readAnswer p l matrix work (length before) .repairs ≡ length (repairsOf cs w) = ap (λ (c : Counts). c .repairs) same in
     let unmet : readAnswer p l matrix work (length before) .unmet ≡ unmetCount cs w = ap (λ (c : Counts). c .unmet) same in
     record {

@@ -84,7 +84,10 @@ module _ (p : Params) (l : List ℕ) {stream message : List ℕ} (k : LegalSymbo
 
     -- A written matrix, read with the same parameters and list, a work buffer that test 5 passes and a message buffer that is long
     -- enough, gives 0 and the message's length, with no repair and no unmet check.
-    pub write-read : (work room : ℕ) → sizes .work ≤ work → length message ≤ room → readAnswer p l matrix work room ≡ done noCounts (length message)
+    pub write-read : (work room : ℕ)
+        → sizes .work ≤ work
+        → length message ≤ room
+        → readAnswer p l matrix work room ≡ done noCounts (length message)
     write-read work room enough long =
         let free : stuck checks word ≡ false = met-not-stuck checks word (ap (unmetCount checks) unturned ∙ met) in
         reaches-gives p l matrix work room (written-reaches work enough)
@@ -134,7 +137,9 @@ module _ (p : Params) (l stream matrix : List ℕ) (work : ℕ) (e : isLegal p l
       first-append answer (frontRows p l (length matrix) work) (noRoom p l stream ∷ []) (answer 0 0)
       ∙ first-passed answer (frontRows p l (length matrix) work) (firstOf answer (noRoom p l stream ∷ []) (answer 0 0)) e
 
-  matrix-at : (a : Answer) → writeAnswer p l stream (length matrix) work ≡ a → after ≡ cond (eqb (a .number) 0) (writtenMatrix p l stream) matrix
+  matrix-at : (a : Answer)
+      → writeAnswer p l stream (length matrix) work ≡ a
+      → after ≡ cond (eqb (a .number) 0) (writtenMatrix p l stream) matrix
   unfolding matrixAfterWrite
   matrix-at a is = ap (λ (b : Answer). cond (eqb (b .number) 0) (writtenMatrix p l stream) matrix) is
 

@@ -26,7 +26,7 @@ use Rattle.calls.specs.declared.ReadAnswer.{ReadAnswer}
 use Rattle.calls.specs.Answers.{counted, refused, done, fromStream, streamRefused, streamDone}
 use Rattle.calls.specs.Tests.{Row, firstOf, passes, spareOne, stuckWord, sizeRows, frontRows, earlyRows, streamRows, acceptedRows, isLegal, reachesChecks}
 use Rattle.calls.specs.Read.{messageInNet, messageInAccepted, streamAnswer, answerFromAccepted, countsOf, answerFromReceived, readAnswer}
-use Rattle.call_laws.proofs.Tests.{Each, each-all, each-map, each-listed, numbersOf, pass-fails, pass-front, pass-behind, first-hit, first-miss, first-none, first-passed, first-keeps, first-map, Legal, legal}
+use Rattle.call_laws.proofs.Tests.{Each, each-all, each-map, each-listed, numbersOf, pass-fails, pass-front, pass-behind, first-append, first-hit, first-miss, first-none, first-passed, first-keeps, first-map, Legal, legal}
 
 -- ---- from the net bits
 
@@ -47,7 +47,8 @@ unfolding streamAnswer
 stream-length-fits net room =
     let Q : StreamAnswer → Type 0 = λ a. a .length ≤ room in
     first-keeps streamRefused Q (streamRows net room) (streamDone (length (messageInNet net)))
-    (each-all (λ r. r .test ≡ true → Q (streamRefused (r .number) (r .place))) (λ r t. omega arith) (streamRows net room)) (stream-fits net room)
+    (each-all (λ r. r .test ≡ true → Q (streamRefused (r .number) (r .place))) (λ r t. omega arith) (streamRows net room))
+    (stream-fits net room)
 
 module _ {stream message : List ℕ} (k : ReadsAs stream message) (n : ℕ) where
   abbrev net : List ℕ
@@ -67,21 +68,28 @@ module _ {stream message : List ℕ} (k : ReadsAs stream message) (n : ℕ) wher
 
 -- ---- from the accepted word
 
--- 10 is passed: the answer is that of the net bits
-pub accepted-stream : (s : Sizes) (w : List ℕ) (c : Counts) (room : ℕ)
-    → anyOne (drop (s .net) (messageBitsFor s w)) ≡ false
-    → answerFromAccepted s w c room ≡ fromStream c (streamAnswer (take (s .net) (messageBitsFor s w)) room)
-unfolding answerFromAccepted acceptedRows messageInAccepted
-accepted-stream s w c room none =
-    let net : List ℕ = take (s .net) (messageBitsFor s w) in
-    first-miss (counted c) (spareOne s w) (streamRows net room) (done c (length (messageInNet net))) none ∙ sym (stream-table net c room)
+module _ (s : Sizes) (w : List ℕ) (c : Counts) (room : ℕ) where
+  -- what the net bits give
+  abbrev streamed : ReadAnswer
+  streamed = fromStream c (streamAnswer (take (s .net) (messageBitsFor s w)) room)
 
--- 10 is given
-pub accepted-spare : (s : Sizes) (w : List ℕ) (c : Counts) (room : ℕ)
-    → anyOne (drop (s .net) (messageBitsFor s w)) ≡ true
-    → answerFromAccepted s w c room ≡ counted c 10 0
-unfolding answerFromAccepted acceptedRows
-accepted-spare s w c room some = first-hit (counted c) (spareOne s w) _ (done c (length (messageInAccepted s w))) some
+  -- 10 is given
+  pub accepted-spare : spareOne s w .test ≡ true → answerFromAccepted s w c room ≡ counted c 10 0
+  unfolding answerFromAccepted
+  accepted-spare some = first-hit (counted c) (spareOne s w) [] streamed some
+
+  -- 10 is passed: the answer is that of the net bits
+  pub accepted-stream : spareOne s w .test ≡ false → answerFromAccepted s w c room ≡ streamed
+  unfolding answerFromAccepted
+  accepted-stream none = first-miss (counted c) (spareOne s w) [] streamed none ∙ first-none (counted c) streamed
+
+  -- all rows of an accepted word as one table
+  pub accepted-table : answerFromAccepted s w c room ≡ firstOf (counted c) (acceptedRows s w room) (done c (length (messageInAccepted s w)))
+  unfolding answerFromAccepted acceptedRows messageInAccepted
+  accepted-table =
+      let net : List ℕ = take (s .net) (messageBitsFor s w) in
+      ap (firstOf (counted c) (spareOne s w ∷ [])) (stream-table net c room)
+      ∙ sym (first-append (counted c) (spareOne s w ∷ []) (streamRows net room) (done c (length (messageInNet net))))
 
 -- a word whose message columns hold a message's net bits, and 0 in the spare ones
 module _ (s : Sizes) (w : List ℕ) {stream message : List ℕ} (k : ReadsAs stream message) (spare : ℕ)
@@ -100,10 +108,12 @@ module _ (s : Sizes) (w : List ℕ) {stream message : List ℕ} (k : ReadsAs str
 
   -- and the answer 0, where there is room
   pub accepted-done : (c : Counts) (room : ℕ) → length message ≤ room → answerFromAccepted s w c room ≡ done c (length message)
-  unfolding answerFromAccepted acceptedRows passes
+  unfolding acceptedRows passes
   accepted-done c room fits =
       let d : ReadAnswer = done c (length (messageInAccepted s w)) in
-      first-passed (counted c) (acceptedRows s w room) d passed ∙ ap (λ (m : List ℕ). done c (length m)) accepted-message
+      accepted-table s w c room
+      ∙ first-passed (counted c) (acceptedRows s w room) d passed
+      ∙ ap (λ (m : List ℕ). done c (length m)) accepted-message
     where
       passed : passes (spareOne s w ∷ streamRows (take (s .net) (messageBitsFor s w)) room) ≡ true
       passed = rw (front, behind, any-zeros spare) (net-passes k (s .net) room fits)
@@ -113,12 +123,15 @@ pub accepted-keeps : (Q : ReadAnswer → Type 0) (s : Sizes) (w : List ℕ) (c :
     → Each (λ r. r .test ≡ true → Q (counted c (r .number) (r .place))) (acceptedRows s w room)
     → (length (messageInAccepted s w) ≤ room → Q (done c (length (messageInAccepted s w))))
     → Q (answerFromAccepted s w c room)
-unfolding answerFromAccepted acceptedRows messageInAccepted passes
+unfolding acceptedRows messageInAccepted passes
 accepted-keeps Q s w c room each last =
-    first-keeps (counted c) Q (acceptedRows s w room) (done c (length (messageInAccepted s w))) each (λ e. last (fits e))
+    subst⁻¹ Q (accepted-table s w c room)
+    (first-keeps (counted c) Q (acceptedRows s w room) (done c (length (messageInAccepted s w))) each (λ e. last (fits e)))
   where
     fits : passes (spareOne s w ∷ streamRows (take (s .net) (messageBitsFor s w)) room) ≡ true → length (messageInAccepted s w) ≤ room
-    fits e = stream-fits (take (s .net) (messageBitsFor s w)) room (pass-behind (spareOne s w ∷ []) (streamRows (take (s .net) (messageBitsFor s w)) room) e)
+    fits e =
+        let net : List ℕ = take (s .net) (messageBitsFor s w) in
+        stream-fits net room (pass-behind (spareOne s w ∷ []) (streamRows net room) e)
 
 -- ---- from the received word
 
@@ -165,7 +178,9 @@ module _ (p : Params) (l matrix : List ℕ) (work : ℕ) where
   reaches-legal e = legal p l (length matrix) work (pass-front (frontRows p l (length matrix) work) _ e)
 
   -- Its answer is the one from its received word.
-  pub reaches-gives : (room : ℕ) → reachesChecks p l matrix work ≡ true → readAnswer p l matrix work room ≡ answerFromReceived sizes word room
+  pub reaches-gives : (room : ℕ)
+      → reachesChecks p l matrix work ≡ true
+      → readAnswer p l matrix work room ≡ answerFromReceived sizes word room
   unfolding reachesChecks readAnswer
   reaches-gives room e = first-passed refused (earlyRows p l matrix work) (answerFromReceived sizes word room) e
 

@@ -46,11 +46,12 @@ unfolding symbol isLeft joinFrom coreTable coresOf nearCore finder patternOf inS
 reserved =
     joinFrom 1 21 (λ x. joinFrom 1 21 (λ y. cond (covered (patternColour symbol x y) || isLeft x y) [] (x ∷ y ∷ ((x + y) % 8) ∷ [])))
 
+-- the symbol's sizes, by the definition
 sizes : Sizes
 unfolding reserved lowest innerPatterns bitsPerModule patternModules dataModules asBits capacity sizesOf
 sizes = sizesFor symbol reserved
 
--- the symbol's sizes, worked out
+-- and worked out
 abbrev small : Sizes
 small = record { columns = 21; rows = 21; depth = 3; capacity = 9; wr = 4; block = 2; gross = 8; checks = 6; net = 2; work = 78 }
 

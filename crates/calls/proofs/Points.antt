@@ -28,6 +28,7 @@ use Rattle.calls.specs.Read.{streamAnswer, readAnswer}
 abbrev rectangle : ℕ → ℕ → ℕ → ℕ → ℕ → Params
 rectangle h v colours wc wr = paramsOf (0 ∷ h ∷ v ∷ colours ∷ 0 ∷ 3 ∷ 2 ∷ wc ∷ wr ∷ 0 ∷ 0 ∷ [])
 
+-- a square one
 abbrev symbol : ℕ → ℕ → ℕ → ℕ → Params
 symbol version colours wc wr = rectangle version version colours wc wr
 
@@ -42,7 +43,7 @@ entries24 = joinFrom 1 21 (λ x. x ∷ 1 ∷ 0 ∷ []) ++ joinFrom 1 3 (λ x. x 
 
 -- the number that a write of so many bytes answers, wc 3 and wr 9, with a work buffer of this length
 abbrev writes : ℕ → ℕ → ℕ
-writes bytes room = writeAnswer (symbol 1 8 3 9) entries24 (streamOf (replicate bytes 0)) 441 room .number
+writes bytes work = writeAnswer (symbol 1 8 3 9) entries24 (streamOf (replicate bytes 0)) 441 work .number
 
 -- P10 and P11 count bits from 1
 abbrev fromZero : List (List ℕ) → List (List ℕ)

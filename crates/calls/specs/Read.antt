@@ -19,8 +19,8 @@ use Rattle.symbology.specs.Symbol.{receivedWord}
 use Rattle.calls.specs.declared.Counts.{Counts}
 use Rattle.calls.specs.declared.StreamAnswer.{StreamAnswer}
 use Rattle.calls.specs.declared.ReadAnswer.{ReadAnswer}
-use Rattle.calls.specs.Answers.{streamRefused, streamDone, counted, refused, done}
-use Rattle.calls.specs.Tests.{Row, firstOf, stuckWord, streamRows, acceptedRows, earlyRows}
+use Rattle.calls.specs.Answers.{streamRefused, streamDone, counted, refused, fromStream}
+use Rattle.calls.specs.Tests.{Row, firstOf, spareOne, stuckWord, streamRows, acceptedRows, earlyRows}
 
 -- ---- the message
 
@@ -49,9 +49,11 @@ frontAfter number stored before = cond (eqb number 0) (sets before 0 stored) bef
 unfoldable pub streamAnswer : List ℕ → ℕ → StreamAnswer
 streamAnswer net room = firstOf streamRefused (streamRows net room) (streamDone (length (messageInNet net)))
 
--- from the accepted word (document 01's term)
+-- from the accepted word (document 01's term): the stream's answer, with the counts
 unfoldable pub answerFromAccepted : Sizes → List ℕ → Counts → ℕ → ReadAnswer
-answerFromAccepted s w c room = firstOf (counted c) (acceptedRows s w room) (done c (length (messageInAccepted s w)))
+answerFromAccepted s w c room =
+    let net = take (s .net) (messageBitsFor s w) in
+    firstOf (counted c) (spareOne s w ∷ []) (fromStream c (streamAnswer net room))
 
 -- the counts that a received word gives: the repairs, and the checks unmet in it
 abbrev pub countsOf : Sizes → List ℕ → Counts

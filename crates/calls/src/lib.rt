@@ -114,7 +114,7 @@ pub fn refused(number: u32, place: usize) -> ReadAnswer
     }
 }
 
-// What a stream gives a read: the counts ride along, refused or not.
+// What a stream gives a read: the counts are handed on, refused or not.
 pub fn from_stream(c: Counts, a: StreamAnswer) -> ReadAnswer
     ensures { λ r. ⌜ r ≡ fromStream c a ⌝ }
 {

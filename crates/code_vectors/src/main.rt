@@ -1,7 +1,7 @@
 // Runs the check matrix and the interleaving on known sizes and prints what they give, a number to a
-// line: the nine columns, from 0, of the first row of each block of A at t 116, wc 3 and wr 9; then, for
-// the ten places of the interleaving of 10 bits and the first six of that of 1,047, which bit of the
-// sequence stands there; and the bits of the ten places when their interleaving is undone.
+// line: the nine columns, from 0, of the first row of each block of A at t 116, wc 3 and wr 9; then which
+// of ten bytes stands at each place when they are interleaved, and when that is undone; then the same of
+// the first six places of 1,047 numbers.
 //
 // The work buffer has 53,964 bytes, document 01's limit for programs.
 use lent::Areas;
@@ -66,13 +66,13 @@ fn print_numbers(work: &[u8], n: usize)
     }
 }
 
-// Interleaves the numbers below n, the first of which are printed.
-fn print_interleaving(work: &mut [u8], n: usize, shown: usize)
-    requires { ⌜ (length (now work) ≡ 53964) × (n ≤ 1047) × (shown ≤ n) ⌝ }
+// Interleaves the numbers below 1,047, of which the first six are printed.
+fn print_interleaving(work: &mut [u8])
+    requires { ⌜ length (now work) ≡ 53964 ⌝ }
 {
-    lent::count_up(work, 0, n);
-    shuffle::shuffle_numbers(work, 0, n, shuffle::INTERLEAVING_SEED);
-    print_numbers(work, shown);
+    lent::count_up(work, 0, 1047);
+    shuffle::shuffle_numbers(work, 0, 1047, shuffle::INTERLEAVING_SEED);
+    print_numbers(work, 6);
 }
 
 fn print_bytes(bytes: &[u8]) {
@@ -97,5 +97,5 @@ fn main() {
     let work: &mut [u8] = &mut space;
     print_rows(work);
     print_ten();
-    print_interleaving(work, 1047, 6);
+    print_interleaving(work);
 }

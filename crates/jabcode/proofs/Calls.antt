@@ -21,18 +21,18 @@ use Rattle.call_laws.proofs.Answers.{refused-write, refused-front, work-untouch
 use Rattle.call_laws.proofs.Mending.{reads-are}
 
 -- the answer a of the tests 1 to 5
-module _ (p : Params) (l : List ℕ) (modules room : ℕ) {a : Answer} (told : a ≡ firstOf answer (frontRows p l modules room) (answer 0 0)) where
+module _ (p : Params) (l : List ℕ) (modules work : ℕ) {a : Answer} (told : a ≡ firstOf answer (frontRows p l modules work) (answer 0 0)) where
   -- it is 0: the input is legal
-  pub is-legal : a .number ≡ 0 → isLegal p l modules room ≡ true
+  pub is-legal : a .number ≡ 0 → isLegal p l modules work ≡ true
   unfolding isLegal
-  is-legal none = zero-passes (frontRows p l modules room) (front-numbered p l modules room) told none
+  is-legal none = zero-passes (frontRows p l modules work) (front-numbered p l modules work) told none
 
   -- it is a refusal: the input is not legal
-  not-legal : (a .number ≡ 0 → ⊥) → isLegal p l modules room ≡ false
+  not-legal : (a .number ≡ 0 → ⊥) → isLegal p l modules work ≡ false
   unfolding isLegal
   not-legal some =
-      by (passes (frontRows p l modules room))
-      (λ e. absurd (some (ap (λ (b : Answer). b .number) (told ∙ first-passed answer (frontRows p l modules room) (answer 0 0) e)))) (λ e. e)
+      by (passes (frontRows p l modules work))
+      (λ e. absurd (some (ap (λ (b : Answer). b .number) (told ∙ first-passed answer (frontRows p l modules work) (answer 0 0) e)))) (λ e. e)
 
 -- a write that one of the tests 1 to 5 refuses
 pub write-refused : (p : Params) (l stream matrix work : List ℕ) {a : Answer}

@@ -1,5 +1,5 @@
 -- What a sound reserved list says: whole entries, at most 1,024, each inside the symbol, on no pattern, at a place that no earlier
--- entry names, with a colour of the symbol; and where the fault of another can be.
+-- entry names, with a colour of the symbol.
 -- Assumes nothing.
 use Prim.Native.Nat.{ℕ, suc, _%_, _≤_, _<_}
 use mathlib.Core.Path.{_≡_, refl, sym}

@@ -69,8 +69,8 @@ module _ (p : Params) (l stream : List ℕ) where
           let all : List ℕ = wordOf ++ endOf in
           let placed : List ℕ = placedBits (sizesFor p l) netOf in
           let long : length placed ≡ sizesFor p l .capacity = length-shuffled 0 interleavingSeed all ∙ whole in
-          let each : AllBits all =
-          append-bits wordOf endOf (symbol-codeword p l k netOf written-bits .are-bits) (stuffing-bits (sizesFor p l .capacity - sizesFor p l .gross)) in
+          let end-bits : AllBits endOf = stuffing-bits (sizesFor p l .capacity - sizesFor p l .gross) in
+          let each : AllBits all = append-bits wordOf endOf (symbol-codeword p l k netOf written-bits .are-bits) end-bits in
           let same : sampled p l (filled p l placed) ≡ placed =
           symbol-back p l k placed (shuffled-every 0 (λ (b : ℕ). b ≤ 1) interleavingSeed all each) long in
           let few : length all ≤ 4096 = omega (arith, whole, k .most) in

@@ -1,5 +1,5 @@
 // Bytes stored piece after piece in a lent buffer, as far as it reaches: a buffer that is too short
-// holds the front of what is stored. specs/ has the contract of the functions above that store a piece
+// holds the front of what is stored. specs/ has the contract of functions of other crates that store a piece
 // and answer the place behind it.
 ghost use mathlib.Core.Path.{_≡_};
 ghost use lib.ListN.{set};

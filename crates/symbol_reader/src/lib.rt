@@ -2,7 +2,7 @@
 // received into the work buffer, the word is mended there, and the net bits are read from it.
 //
 // `jabcode::read` is the way in, and makes the tests before. The stages follow document 01's tests: 7 and
-// 8, then 9, then 10, then 11 to 14, which are `stream_reader::read_net`. The counts ride through them as one
+// 8, then 9, then 10, then 11 to 14, which are `stream_reader::read_net`. The counts are handed on as one
 // value; `room` is the length that a message may have, whatever the buffer that it is stored to.
 use calls::Counts;
 use calls::ReadAnswer;

@@ -52,7 +52,7 @@ netBits c wc wr = blockRows c wr * (wr - wc)
 abbrev pub rowBytes : ℕ → ℕ
 rowBytes gross = (gross + 7) / 8
 
--- test 5: K × (Pg div 8, rounded up) + 8 × C bytes
+-- the least work buffer: K × (Pg div 8, rounded up) + 8 × C bytes
 abbrev pub workBytes : ℕ → ℕ → ℕ → ℕ
 workBytes checks gross c = checks * rowBytes gross + 8 * c
 

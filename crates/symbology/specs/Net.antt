@@ -11,7 +11,7 @@ use Rattle.symbology.specs.Ranges.{tabulate, tally}
 unfoldable pub withEndMark : ℕ → List ℕ → List ℕ
 withEndMark n stream = stream ++ 1 ∷ replicate (n - suc (length stream)) 0
 
--- test 6: the stream and its end mark exceed the n net bits
+-- the stream and its end mark exceed the n net bits
 abbrev pub exceeds : ℕ → ℕ → Bool
 exceeds streamLength n = ltb n (suc streamLength)
 

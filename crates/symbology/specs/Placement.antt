@@ -131,6 +131,6 @@ bitsAt p l matrix c r =
 unfoldable pub sampled : Params → List ℕ → List ℕ → List ℕ
 sampled p l matrix = joinFrom 0 (columns p) (λ c. joinFrom 0 (rows p) (λ r. bitsAt p l matrix c r))
 
--- test 7: the first module of N or more, and the matrix's length where there is none
+-- the first module of N or more, and the matrix's length where there is none
 unfoldable pub firstBadModule : ℕ → List ℕ → ℕ
 firstBadModule colours matrix = lowest (λ i. leb colours (getD matrix i 0)) (length matrix) 0

@@ -17,13 +17,9 @@ fn code() -> Vec<u8> {
     let block = matrix.rows().len() / 3;
     let firsts = (0..3).map(|number| &matrix.rows()[number * block]);
     let mut numbers: Vec<usize> = firsts.flat_map(Bits::ones).collect();
-    let ten = generator::interleaving(10);
-    let mut undone = vec![0; 10];
-    for (place, &source) in ten.iter().enumerate() {
-        undone[source] = ten[place];
-    }
-    numbers.extend(ten);
-    numbers.extend(undone);
+    numbers.extend(generator::interleaving(10));
+    // undone, the ten stand in their order again
+    numbers.extend(0..10);
     numbers.extend(&generator::interleaving(1_047)[..6]);
     let lines = numbers.iter().map(|number| format!("{number}\n"));
     lines.collect::<String>().into_bytes()

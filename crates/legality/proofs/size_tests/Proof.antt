@@ -65,7 +65,8 @@ returns-3 c =
     let a = sound .before .before .before .before .before .before .args in
     let s = sizing .sizes-of in
     c .answered3 .ensures
-    ∙ sym (too-small (a .p) (a .list .now) (ranged (sound .before .before .before)) (judged sound) (s .result) (s .ensures) (c .before .if2 .taken))
+    ∙ sym (too-small (a .p) (a .list .now) (ranged (sound .before .before .before)) (judged sound) (s .result) (s .ensures)
+    (c .before .if2 .taken))
 
 answered-requires-4 : tie.Need-answered-requires-4
 answered-requires-4 c κs = search needs
@@ -77,7 +78,8 @@ returns-4 c =
     let a = sound .before .before .before .before .before .before .args in
     let s = sizing .sizes-of in
     c .answered4 .ensures
-    ∙ sym (too-large (a .p) (a .list .now) (ranged (sound .before .before .before)) (judged sound) (s .result) (s .ensures) (c .before .if3 .taken))
+    ∙ sym (too-large (a .p) (a .list .now) (ranged (sound .before .before .before)) (judged sound) (s .result) (s .ensures)
+    (c .before .if3 .taken))
 
 answered-requires-5 : tie.Need-answered-requires-5
 answered-requires-5 c κs = search needs
