@@ -3,7 +3,7 @@
 -- Assumes nothing.
 use Prim.Native.Nat.{ℕ, suc, _-_, _≤_}
 use mathlib.Core.Path.{_≡_, refl, sym, ap, _∙_}
-use mathlib.Core.Bool.{Bool, true, false}
+use mathlib.Core.Bool.{Bool, true, false, not, _&&_, _||_}
 use mathlib.Core.Logic.{_⊎_, inl, inr}
 use mathlib.Core.List.{List, [], _∷_, _++_}
 use native.Mathlib.Nat.{zero-add}
@@ -11,16 +11,16 @@ use native.Mathlib.Omega.{arith}
 use lib.Dec.{eqb}
 use lib.ListN.{length, take, drop, replicate, length-replicate, length-take}
 use lib.Seq.{length-sets, sets-eq, take-at, drop-at}
-use borrow.Author.Tests.{ne-eqb}
+use borrow.Author.Tests.{ne-eqb, eqb-true, eqb-false, not-true}
 use Rattle.symbology.specs.declared.Params.{Params}
 use Rattle.symbology.specs.declared.Sizes.{Sizes}
-use Rattle.symbology.specs.Ranges.{has}
+use Rattle.symbology.specs.Ranges.{allHold, has}
 use Rattle.symbology.specs.Capacity.{sizesFor}
 use Rattle.symbology.specs.Rule.{lastWord}
 use Rattle.symbology.specs.Code.{checksFor, messageBitsFor}
 use Rattle.symbology.specs.Net.{upToLastOne, streamIn}
 use Rattle.symbology.specs.Symbol.{receivedWord}
-use Rattle.symbology.proofs.Ranges.{clash}
+use Rattle.symbology.proofs.Ranges.{clash, and-left, and-right}
 use Rattle.laws.proofs.Ranges.{by}
 use Rattle.laws.proofs.Stream.{decode-few}
 use Rattle.calls.specs.declared.Answer.{Answer}
@@ -30,7 +30,7 @@ use Rattle.calls.specs.Answers.{answer, noCounts, counted, refused, done, count
 use Rattle.calls.specs.Tests.{Row, firstOf, stuckWord, sizeRows, frontRows, writeRows, earlyRows, streamRows, acceptedRows, isLegal}
 use Rattle.calls.specs.Write.{writeAnswer, matrixAfterWrite, workAfter}
 use Rattle.calls.specs.Read.{messageInAccepted, messageIn, frontAfter, answerFromAccepted, countsOf, answerFromReceived, readAnswer, readRows}
-use Rattle.call_laws.proofs.Tests.{Each, each-all, numbersOf, first-append, first-map, first-keeps}
+use Rattle.call_laws.proofs.Tests.{Each, each-all, each-computed, each-map, numbersOf, first-append, first-map, first-keeps}
 use Rattle.call_laws.proofs.Stages.{accepted-table, read-keeps}
 
 -- ---- document 01, "Numbers returned"
@@ -72,74 +72,95 @@ read-table p l matrix work room =
 
 -- ---- which answers there are
 
+-- the numbers that a read answers, and those before the checks
+abbrev pub readNumbers : List ℕ
+readNumbers = 0 ∷ 1 ∷ 2 ∷ 3 ∷ 4 ∷ 5 ∷ 7 ∷ 8 ∷ 9 ∷ 10 ∷ 11 ∷ 12 ∷ 13 ∷ 14 ∷ []
+
+abbrev pub earlyNumbers : List ℕ
+earlyNumbers = 1 ∷ 2 ∷ 3 ∷ 4 ∷ 5 ∷ 7 ∷ 8 ∷ []
+
 -- number, place, length and counts as document 01 has them
 pub record ReadAnswerIs (a : ReadAnswer) : Type 0 where
-  pub number-is : has (a .number) (0 ∷ 1 ∷ 2 ∷ 3 ∷ 4 ∷ 5 ∷ 7 ∷ 8 ∷ 9 ∷ 10 ∷ 11 ∷ 12 ∷ 13 ∷ 14 ∷ []) ≡ true
-  pub place-is : (a .number ≡ 2) ⊎ (a .number ≡ 7) ⊎ (a .place ≡ 0)
-  pub length-is : (a .number ≡ 0) ⊎ (a .length ≡ 0)
-  pub counts-are : has (a .number) (1 ∷ 2 ∷ 3 ∷ 4 ∷ 5 ∷ 7 ∷ 8 ∷ []) ≡ true → countsIn a ≡ noCounts
+  pub number-is : has (a .number) readNumbers ≡ true
+  pub place-is : has (a .number) (2 ∷ 7 ∷ []) ≡ false → a .place ≡ 0
+  pub length-is : (a .number ≡ 0 → ⊥) → a .length ≡ 0
+  pub counts-are : has (a .number) earlyNumbers ≡ true → countsIn a ≡ noCounts
+
+-- what the rows of a read have: one of its numbers, and place 0 but with 2 and 7; those behind the checks none of the numbers before
+regular : Row → Bool
+regular r = has (r .number) readNumbers && (has (r .number) (2 ∷ 7 ∷ []) || eqb (r .place) 0)
+
+late : Row → Bool
+late r = regular r && not (has (r .number) earlyNumbers)
+
+row-place : (r : Row) → regular r ≡ true → has (r .number) (2 ∷ 7 ∷ []) ≡ false → r .place ≡ 0
+unfolding regular
+row-place r f none =
+    let placed : (has (r .number) (2 ∷ 7 ∷ []) || eqb (r .place) 0) ≡ true = and-right (has (r .number) readNumbers) _ f in
+    eqb-true (r .place) 0 (rw none at placed)
+
+early-is : (r : Row) → regular r ≡ true → ReadAnswerIs (refused (r .number) (r .place))
+unfolding regular
+early-is r f =
+    record {
+      number-is = and-left (has (r .number) readNumbers) _ f;
+      place-is = row-place r f;
+      length-is = λ some. refl;
+      counts-are = λ before. refl;
+    }
+
+late-is : (c : Counts) (r : Row) → late r ≡ true → ReadAnswerIs (counted c (r .number) (r .place))
+unfolding regular late
+late-is c r f =
+    let fine : regular r ≡ true = and-left (regular r) (not (has (r .number) earlyNumbers)) f in
+    let behind : not (has (r .number) earlyNumbers) ≡ true = and-right (regular r) (not (has (r .number) earlyNumbers)) f in
+    record {
+      number-is = and-left (has (r .number) readNumbers) _ fine;
+      place-is = row-place r fine;
+      length-is = λ some. refl;
+      counts-are = λ before. clash before (not-true (has (r .number) earlyNumbers) behind);
+    }
 
 -- A read answers 0 to 14 but not 6, its place is 0 but with 2 and 7, a refusal has length 0, and with 1 to 8 the counts are 0.
 pub read-answer : (p : Params) (l matrix : List ℕ) (work room : ℕ) → ReadAnswerIs (readAnswer p l matrix work room)
-unfolding Each has sizeRows frontRows earlyRows streamRows acceptedRows
+unfolding allHold has sizeRows frontRows earlyRows streamRows acceptedRows regular late
 read-answer p l matrix work room =
-    read-keeps p l matrix work room ReadAnswerIs (
-      λ t. early 1 0 refl (inr (inr refl)),
-      (
-        λ t. early 2 _ refl (inl refl),
-        (
-          λ t. early 3 0 refl (inr (inr refl)),
-          (
-            λ t. early 4 0 refl (inr (inr refl)),
-            (λ t. early 5 0 refl (inr (inr refl)), (λ t. early 7 _ refl (inr (inl refl)), (λ t. early 8 0 refl (inr (inr refl)), tt))),
-          ),
-        ),
-      ),
-    )
-    (λ e. (
-      λ t. late 9 refl refl,
-      (
-        λ t. late 10 refl refl,
-        (
-          λ t. late 11 refl refl,
-          (
-            λ t. late 12 refl refl,
-            (
-              λ t. late 13 refl refl,
-              (λ t. late 14 refl refl, tt),
-            ),
-          ),
-        ),
-      ),
-    ))
-    (λ e fits. record { number-is = refl; place-is = inr (inr refl); length-is = inl refl; counts-are = λ z. clash z refl })
-  where
-    early : (k place : ℕ)
-        → has k (0 ∷ 1 ∷ 2 ∷ 3 ∷ 4 ∷ 5 ∷ 7 ∷ 8 ∷ 9 ∷ 10 ∷ 11 ∷ 12 ∷ 13 ∷ 14 ∷ []) ≡ true
-        → (k ≡ 2) ⊎ (k ≡ 7) ⊎ (place ≡ 0)
-        → ReadAnswerIs (refused k place)
-    early k place listed where-zero = record { number-is = listed; place-is = where-zero; length-is = inr refl; counts-are = λ z. refl }
+    let s : Sizes = sizesFor p l in
+    let w : List ℕ = receivedWord p l matrix in
+    let c : Counts = countsOf s w in
+    let early : List Row = earlyRows p l matrix work in
+    let behind : List Row = stuckWord s w ∷ acceptedRows s (lastWord (checksFor s) w) room in
+    read-keeps p l matrix work room ReadAnswerIs
+    (each-map (λ r. regular r ≡ true) (λ r. r .test ≡ true → ReadAnswerIs (refused (r .number) (r .place))) (λ r f t. early-is r f) early
+    (each-computed regular early refl))
+    (λ e.
+    each-map (λ r. late r ≡ true) (λ r. r .test ≡ true → ReadAnswerIs (counted c (r .number) (r .place))) (λ r f t. late-is c r f) behind
+    (each-computed late behind refl))
+    (λ e fits. record { number-is = refl; place-is = λ other. refl; length-is = λ some. absurd (some refl); counts-are = λ z. clash z refl })
 
-    late : {c : Counts} (k : ℕ)
-        → has k (0 ∷ 1 ∷ 2 ∷ 3 ∷ 4 ∷ 5 ∷ 7 ∷ 8 ∷ 9 ∷ 10 ∷ 11 ∷ 12 ∷ 13 ∷ 14 ∷ []) ≡ true
-        → has k (1 ∷ 2 ∷ 3 ∷ 4 ∷ 5 ∷ 7 ∷ 8 ∷ []) ≡ false
-        → ReadAnswerIs (counted c k 0)
-    late k listed other = record { number-is = listed; place-is = inr (inr refl); length-is = inr refl; counts-are = λ z. clash z other }
-
--- a refusal has not the number 0: no row of a read has
+-- an answer of 0 is no row's
 never-zero : (Q : ReadAnswer → Type 0) (p : Params) (l matrix : List ℕ) (work room : ℕ)
     → (let m = messageIn p l matrix in
     length m ≤ room
     → Q (done (countsOf (sizesFor p l) (receivedWord p l matrix)) (length m)))
     → readAnswer p l matrix work room .number ≡ 0
     → Q (readAnswer p l matrix work room)
-unfolding Each sizeRows frontRows earlyRows streamRows acceptedRows messageIn
+unfolding allHold sizeRows frontRows earlyRows streamRows acceptedRows messageIn
 never-zero Q p l matrix work room last =
-    read-keeps p l matrix work room (λ (a : ReadAnswer). a .number ≡ 0 → Q a)
-    (no, (no, (no, (no, (no, (no, (no, tt))))))) (λ e. (no, (no, (no, (no, (no, (no, tt))))))) (λ e fits z. last fits)
-  where
-    no : {t : Bool} {k place : ℕ} {c : Counts} → t ≡ true → suc k ≡ 0 → Q (counted c (suc k) place)
-    no t z = absurd (omega arith)
+    let s : Sizes = sizesFor p l in
+    let w : List ℕ = receivedWord p l matrix in
+    let c : Counts = countsOf s w in
+    let R : ReadAnswer → Type 0 = λ a. a .number ≡ 0 → Q a in
+    let some : Row → Bool = λ r. not (eqb (r .number) 0) in
+    let early : List Row = earlyRows p l matrix work in
+    let behind : List Row = stuckWord s w ∷ acceptedRows s (lastWord (checksFor s) w) room in
+    read-keeps p l matrix work room R
+    (each-map (λ r. some r ≡ true) (λ r. r .test ≡ true → R (refused (r .number) (r .place)))
+    (λ r f t z. absurd (eqb-false (r .number) 0 (not-true (eqb (r .number) 0) f) z)) early (each-computed some early refl))
+    (λ e.
+    each-map (λ r. some r ≡ true) (λ r. r .test ≡ true → R (counted c (r .number) (r .place)))
+    (λ r f t z. absurd (eqb-false (r .number) 0 (not-true (eqb (r .number) 0) f) z)) behind (each-computed some behind refl))
+    (λ e fits z. last fits)
 
 -- On 0 the length is the message's, and the message fits in its buffer.
 pub read-length : (p : Params) (l matrix : List ℕ) (work room : ℕ)
@@ -167,35 +188,36 @@ message-few p l matrix =
     let net : List ℕ = take (s .net) m in
     omega (arith, decode-few (streamIn net), length-take (upToLastOne net - 1) net, length-take (s .net) m)
 
+-- the numbers that a write answers
+abbrev pub writeNumbers : List ℕ
+writeNumbers = 0 ∷ 1 ∷ 2 ∷ 3 ∷ 4 ∷ 5 ∷ 6 ∷ []
+
 -- number and place as document 01 has them
 pub record WriteAnswerIs (a : Answer) : Type 0 where
-  pub number-is : has (a .number) (0 ∷ 1 ∷ 2 ∷ 3 ∷ 4 ∷ 5 ∷ 6 ∷ []) ≡ true
-  pub place-is : (a .number ≡ 2) ⊎ (a .place ≡ 0)
+  pub number-is : has (a .number) writeNumbers ≡ true
+  pub place-is : (a .number ≡ 2 → ⊥) → a .place ≡ 0
+
+-- what the rows of a write have: one of its numbers, and place 0 but with 2
+plain : Row → Bool
+plain r = has (r .number) writeNumbers && (eqb (r .number) 2 || eqb (r .place) 0)
+
+plain-is : (r : Row) → plain r ≡ true → WriteAnswerIs (answer (r .number) (r .place))
+unfolding plain
+plain-is r f =
+    let placed : (eqb (r .number) 2 || eqb (r .place) 0) ≡ true = and-right (has (r .number) writeNumbers) _ f in
+    record {
+      number-is = and-left (has (r .number) writeNumbers) _ f;
+      place-is = λ other. eqb-true (r .place) 0 (rw (ne-eqb (r .number) 2 other) at placed);
+    }
 
 -- A write answers 0 to 6, and its place is 0 but with 2.
 pub write-answer : (p : Params) (l stream : List ℕ) (modules work : ℕ) → WriteAnswerIs (writeAnswer p l stream modules work)
-unfolding Each has sizeRows frontRows writeRows writeAnswer
+unfolding allHold has sizeRows frontRows writeRows writeAnswer plain
 write-answer p l stream modules work =
-    first-keeps answer WriteAnswerIs (writeRows p l stream modules work) (answer 0 0) (
-      λ t. is 1 refl,
-      (
-        λ t. record { number-is = refl; place-is = inl refl },
-        (
-          λ t. is 3 refl,
-          (
-            λ t. is 4 refl,
-            (
-              λ t. is 5 refl,
-              (λ t. is 6 refl, tt),
-            ),
-          ),
-        ),
-      ),
-    )
-    (λ e. is 0 refl)
-  where
-    is : (k : ℕ) → has k (0 ∷ 1 ∷ 2 ∷ 3 ∷ 4 ∷ 5 ∷ 6 ∷ []) ≡ true → WriteAnswerIs (answer k 0)
-    is k listed = record { number-is = listed; place-is = inr refl }
+    let rows : List Row = writeRows p l stream modules work in
+    first-keeps answer WriteAnswerIs rows (answer 0 0)
+    (each-map (λ r. plain r ≡ true) (λ r. r .test ≡ true → WriteAnswerIs (answer (r .number) (r .place))) (λ r f t. plain-is r f) rows
+    (each-computed plain rows refl)) (λ e. record { number-is = refl; place-is = λ other. refl })
 
 -- ---- the buffers at exit
 

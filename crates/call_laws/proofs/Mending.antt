@@ -3,11 +3,14 @@
 -- Assumes nothing.
 use Prim.Native.Nat.{ℕ, _<_}
 use mathlib.Core.Path.{_≡_, refl, sym, ap, _∙_, subst⁻¹}
-use mathlib.Core.Bool.{true, false}
+use mathlib.Core.Bool.{Bool, true, false, not}
 use mathlib.Core.List.{List}
 use native.Mathlib.Omega.{arith}
+use lib.Dec.{eqb}
 use lib.ListN.{length}
+use borrow.Author.Tests.{eqb-false, not-true}
 use Rattle.symbology.specs.declared.Params.{Params}
+use Rattle.symbology.specs.Ranges.{allHold}
 use Rattle.symbology.specs.Bits.{AllBits}
 use Rattle.symbology.specs.Capacity.{sizesFor}
 use Rattle.symbology.specs.Rule.{unmetCount, repairsOf, lastWord, stuck}
@@ -20,12 +23,12 @@ use Rattle.laws.proofs.Symbols.{received-bits, length-received, symbol-once}
 use Rattle.calls.specs.declared.Counts.{Counts}
 use Rattle.calls.specs.declared.ReadAnswer.{ReadAnswer}
 use Rattle.calls.specs.Answers.{counted, countsIn}
-use Rattle.calls.specs.Tests.{reachesChecks, streamRows, acceptedRows}
+use Rattle.calls.specs.Tests.{Row, reachesChecks, streamRows, acceptedRows}
 use Rattle.calls.specs.Read.{answerFromAccepted, countsOf, readAnswer, messageIn, frontAfter}
 use Rattle.calls.specs.Write.{workAfter}
 use Rattle.calls.specs.Mending.{Mends}
 use Rattle.calls.specs.Contracts.{Reads}
-use Rattle.call_laws.proofs.Tests.{Each}
+use Rattle.call_laws.proofs.Tests.{each-computed, each-map}
 use Rattle.call_laws.proofs.Stages.{accepted-keeps, from-stuck, from-mended, reaches-legal, reaches-gives}
 use Rattle.call_laws.proofs.Answers.{refused-front}
 
@@ -54,19 +57,15 @@ module _ (p : Params) (l matrix before : List ℕ) (work : ℕ) (reaching : reac
 
   -- an answer from the accepted word has these counts, and its number is not 9
   onward-counts : (countsIn onward ≡ counts) × (onward .number ≡ 9 → ⊥)
-  unfolding Each streamRows acceptedRows
+  unfolding allHold streamRows acceptedRows
   onward-counts =
       let Q : ReadAnswer → Type 0 = λ a. (countsIn a ≡ counts) × (a .number ≡ 9 → ⊥) in
-      accepted-keeps Q (sizesFor p l) (lastWord checks word) counts (length before) (
-        λ t. (refl, λ z. omega arith),
-        (
-          λ t. (refl, λ z. omega arith),
-          (
-            λ t. (refl, λ z. omega arith),
-            (λ t. (refl, λ z. omega arith), (λ t. (refl, λ z. omega arith), tt)),
-          ),
-        ),
-      ) (λ fits. (refl, λ z. omega arith))
+      let rows : List Row = acceptedRows (sizesFor p l) (lastWord checks word) (length before) in
+      let other : Row → Bool = λ r. not (eqb (r .number) 9) in
+      accepted-keeps Q (sizesFor p l) (lastWord checks word) counts (length before)
+      (each-map (λ r. other r ≡ true) (λ r. r .test ≡ true → Q (counted counts (r .number) (r .place)))
+      (λ r f t. (refl, eqb-false (r .number) 9 (not-true (eqb (r .number) 9) f))) rows (each-computed other rows refl))
+      (λ fits. (refl, λ z. omega arith))
 
   is-nine : stuck checks word ≡ true → answered .number ≡ 9
   is-nine t = ap (λ (a : ReadAnswer). a .number) (at-stuck t)

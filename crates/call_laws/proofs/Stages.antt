@@ -2,15 +2,15 @@
 -- Assumes nothing.
 use Prim.Native.Nat.{ℕ, _≤_}
 use mathlib.Core.Path.{_≡_, refl, sym, ap, _∙_, subst⁻¹}
-use mathlib.Core.Bool.{true, false}
+use mathlib.Core.Bool.{Bool, true, false, not}
 use mathlib.Core.List.{List, [], _∷_, _++_}
 use native.Mathlib.Omega.{arith}
 use lib.ListN.{length, take, drop, replicate}
 use lib.Seq.{take-at, drop-at}
-use borrow.Author.Tests.{ltb-false, le-ltb}
+use borrow.Author.Tests.{ltb-false, le-ltb, not-true}
 use Rattle.symbology.specs.declared.Params.{Params}
 use Rattle.symbology.specs.declared.Sizes.{Sizes}
-use Rattle.symbology.specs.Ranges.{has}
+use Rattle.symbology.specs.Ranges.{allHold, has}
 use Rattle.symbology.specs.Bits.{anyOne}
 use Rattle.symbology.specs.Capacity.{sizesFor}
 use Rattle.symbology.specs.Rule.{lastWord, stuck}
@@ -26,7 +26,7 @@ use Rattle.calls.specs.declared.ReadAnswer.{ReadAnswer}
 use Rattle.calls.specs.Answers.{counted, refused, done, fromStream, streamRefused, streamDone}
 use Rattle.calls.specs.Tests.{Row, firstOf, passes, spareOne, stuckWord, sizeRows, frontRows, earlyRows, streamRows, acceptedRows, isLegal, reachesChecks}
 use Rattle.calls.specs.Read.{messageInNet, messageInAccepted, streamAnswer, answerFromAccepted, countsOf, answerFromReceived, readAnswer}
-use Rattle.call_laws.proofs.Tests.{Each, each-all, each-map, each-listed, numbersOf, pass-fails, pass-front, pass-behind, first-append, first-hit, first-miss, first-none, first-passed, first-keeps, first-map, Legal, legal}
+use Rattle.call_laws.proofs.Tests.{Each, each-all, each-computed, each-map, each-listed, numbersOf, pass-fails, pass-front, pass-behind, first-append, first-hit, first-miss, first-none, first-passed, first-keeps, first-map, Legal, legal}
 
 -- ---- from the net bits
 
@@ -218,8 +218,12 @@ module _ (p : Params) (l matrix : List ℕ) (work : ℕ) where
     -- The answer of a read that reaches the checks is none of them.
     pub reaches-only : reachesChecks p l matrix work ≡ true
         → has (readAnswer p l matrix work room .number) (1 ∷ 2 ∷ 3 ∷ 4 ∷ 5 ∷ 7 ∷ 8 ∷ []) ≡ false
-    unfolding Each streamRows acceptedRows has
+    unfolding allHold streamRows acceptedRows has
     reaches-only e =
         let Q : ReadAnswer → Type 0 = λ a. has (a .number) (1 ∷ 2 ∷ 3 ∷ 4 ∷ 5 ∷ 7 ∷ 8 ∷ []) ≡ false in
+        let late : List Row = stuckWord sizes word ∷ acceptedRows sizes (lastWord (checksFor sizes) word) room in
+        let other : Row → Bool = λ r. not (has (r .number) (1 ∷ 2 ∷ 3 ∷ 4 ∷ 5 ∷ 7 ∷ 8 ∷ [])) in
         subst⁻¹ Q (reaches-gives room e)
-        (received-keeps sizes word room Q (λ t. refl, (λ t. refl, (λ t. refl, (λ t. refl, (λ t. refl, (λ t. refl, tt)))))) (λ fits. refl))
+        (received-keeps sizes word room Q
+        (each-map (λ r. other r ≡ true) (λ r. r .test ≡ true → Q (counted (countsOf sizes word) (r .number) (r .place)))
+        (λ r f t. not-true (has (r .number) (1 ∷ 2 ∷ 3 ∷ 4 ∷ 5 ∷ 7 ∷ 8 ∷ [])) f) late (each-computed other late refl)) (λ fits. refl))

@@ -15,7 +15,7 @@ use Rattle.symbology.specs.declared.Params.{Params}
 use Rattle.symbology.specs.declared.Sizes.{Sizes}
 use Rattle.symbology.specs.declared.ListVerdict.{ListVerdict}
 use Rattle.symbology.specs.declared.ListVerdict.the-variants.{Sound, Fault}
-use Rattle.symbology.specs.Ranges.{lowest, has}
+use Rattle.symbology.specs.Ranges.{allHold, lowest, has}
 use Rattle.symbology.specs.Parameters.{inRange}
 use Rattle.symbology.specs.Reserved.{listVerdict, listNumber}
 use Rattle.symbology.specs.Capacity.{sizesFor}
@@ -62,6 +62,14 @@ each-listed (r ∷ rs) = (
   each-map (λ s. has (s .number) (numbersOf rs) ≡ true) (λ s. has (s .number) (numbersOf (r ∷ rs)) ≡ true)
       (λ s e. has-wider (s .number) (r .number) (numbersOf rs) e) rs (each-listed rs),
 )
+
+-- a computed test of each row
+pub each-computed : (f : Row → Bool) (rs : List Row) → allHold (map f rs) ≡ true → Each (λ r. f r ≡ true) rs
+unfolding Each allHold
+each-computed f [] e = tt
+each-computed f (r ∷ rs) e =
+    let others : Bool = allHold (map f rs) in
+    (and-left (f r) others e, each-computed f rs (and-right (f r) others e))
 
 -- the row's test fails
 abbrev pub Fails : Row → Type 0
