@@ -29,7 +29,8 @@ abbrev right : ℕ → ℕ → Bool
 right k c = modulesRight k (k + 1) c && bitsRight k (k + 1) c
 
 all-right : allBelow 32 (λ k. allBelow 4 (right k)) ≡ true
-unfolding allBelow lowest table1 table1Entries squareModules squareBits coreTable coresOf innerPatterns bitsPerModule patternModules dataModules asBits
+unfolding allBelow lowest table1 table1Entries squareModules squareBits coreTable coresOf innerPatterns bitsPerModule patternModules
+    dataModules asBits
 all-right = refl
 
 module _ (version c : ℕ) (least : 1 ≤ version) (most : version ≤ 32) (inside : c < 4) where

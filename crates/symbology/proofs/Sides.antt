@@ -58,7 +58,8 @@ module _ (v : ℕ) (least : 1 ≤ v) (most : v ≤ 32) where
       let cs : List ℕ = coresOf v in
       and-left (spaced 1 (1 + size) cs) (within 2 9 (length cs) && (allWide cs && (allInside size cs && eqb (getD cs 0 0) 4))) here
 
-  from-number : (within 2 9 (length (coresOf v)) && (allWide (coresOf v) && (allInside (sideSize v) (coresOf v) && eqb (getD (coresOf v) 0 0) 4))) ≡ true
+  from-number : (within 2 9 (length (coresOf v))
+      && (allWide (coresOf v) && (allInside (sideSize v) (coresOf v) && eqb (getD (coresOf v) 0 0) 4))) ≡ true
   from-number =
       let size : ℕ = sideSize v in
       let cs : List ℕ = coresOf v in
@@ -99,7 +100,8 @@ module _ (v : ℕ) (least : 1 ≤ v) (most : v ≤ 32) where
       let cs : List ℕ = coresOf v in
       leb-true (getD cs i 0 + 10) (getD cs j 0)
       (below-true (wide cs j) j
-      (below-true (λ n. allBelow n (wide cs n)) (length cs) (and-left (allWide cs) (allInside (sideSize v) cs && eqb (getD cs 0 0) 4) from-apart) j inner)
+      (below-true (λ n. allBelow n (wide cs n)) (length cs)
+      (and-left (allWide cs) (allInside (sideSize v) cs && eqb (getD cs 0 0) 4) from-apart) j inner)
       i before)
 
   core-inside : (i : ℕ) → i < length (coresOf v) → inside (sideSize v) (coresOf v) i ≡ true

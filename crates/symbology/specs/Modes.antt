@@ -8,10 +8,12 @@ use lib.Dec.{ltb, eqb}
 use Rattle.symbology.specs.declared.Mode.{Mode}
 use Rattle.symbology.specs.declared.Mode.the-variants.{Upper, Lower, Numeric, Alphanumeric}
 use Rattle.symbology.specs.declared.Expected.{Expected}
-use Rattle.symbology.specs.declared.Expected.the-variants.{Latched, Punctuation, Mixed, Capital, MoreSwitches, ShortCount, LongCount, Byte}
+use Rattle.symbology.specs.declared.Expected.the-variants.{Latched, Punctuation, Mixed, Capital}
+use Rattle.symbology.specs.declared.Expected.the-variants.{MoreSwitches, ShortCount, LongCount, Byte}
 use Rattle.symbology.specs.declared.ModeAnswer.{ModeAnswer}
 use Rattle.symbology.specs.declared.ModeAnswer.the-variants.{Next, EndOfMessage, Undefined, Eci, Fnc1}
-use Rattle.symbology.specs.Characters.{upperCharacters, lowerCharacters, numericCharacters, punctuationCharacters, mixedCharacters, alphanumericCharacters, characterBytes}
+use Rattle.symbology.specs.Characters.{upperCharacters, lowerCharacters, numericCharacters, punctuationCharacters}
+use Rattle.symbology.specs.Characters.{mixedCharacters, alphanumericCharacters, characterBytes}
 
 -- the bits of a code of a latched mode
 abbrev pub modeWidth : Mode → ℕ
