@@ -24,7 +24,8 @@ unfolding isSum
 sum-same k n a b same [] low v w e = below-ext k (λ i. not (v i)) (λ i. not (w i)) (λ i h. ap not (e i h))
 sum-same k n a b same (x ∷ l) low v w e =
     ap₂ _||_ (sum-same k n a b same l low′ v w e)
-    (sum-same k n a b same l low′ (λ i. xor (v i) (a i x)) (λ i. xor (w i) (b i x)) (λ i h. ap₂ xor (e i h) (same i h x (low x (has-first x l)))))
+    (sum-same k n a b same l low′ (λ i. xor (v i) (a i x)) (λ i. xor (w i) (b i x))
+    (λ i h. ap₂ xor (e i h) (same i h x (low x (has-first x l)))))
   where
     low′ : (c : ℕ) → has c l ≡ true → c < n
     low′ c o = low c (has-wider c x l o)

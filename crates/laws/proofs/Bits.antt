@@ -27,7 +27,8 @@ unfolding value
 value-snoc [] b = omega arith
 value-snoc (x ∷ bs) b =
     let l : length (bs ++ (b ∷ [])) ≡ suc (length bs) = length-append bs (b ∷ []) ∙ add-one (length bs) in
-    let p : x % 2 * 2 ^ length (bs ++ (b ∷ [])) ≡ x % 2 * 2 ^ length bs * 2 = rw (l, pow-suc 2 (length bs)) (sym (mul-assoc (x % 2) (2 ^ length bs) 2)) in
+    let p : x % 2 * 2 ^ length (bs ++ (b ∷ [])) ≡ x % 2 * 2 ^ length bs * 2 =
+    rw (l, pow-suc 2 (length bs)) (sym (mul-assoc (x % 2) (2 ^ length bs) 2)) in
     omega (arith, value-snoc bs b)
 
 pub value-bits : (w n : ℕ) → n < 2 ^ w → value (bits w n) ≡ n

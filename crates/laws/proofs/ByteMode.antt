@@ -155,7 +155,8 @@ run-bits : (m : List ℕ) → AllBits (byteRun m)
 unfolding byteRun
 run-bits m =
     append-bits (bits 5 31 ++ bits 2 0 ++ runCount (length m)) (byteBits m)
-    (append-bits (bits 5 31 ++ bits 2 0) (runCount (length m)) (append-bits (bits 5 31) (bits 2 0) (bits-are 5 31) (bits-are 2 0)) (count-bits (length m)))
+    (append-bits (bits 5 31 ++ bits 2 0) (runCount (length m))
+    (append-bits (bits 5 31) (bits 2 0) (bits-are 5 31) (bits-are 2 0)) (count-bits (length m)))
     (bytes-are-bits m)
 
 runs-bits : (n : ℕ) (m : List ℕ) → AllBits (byteRuns n m)
@@ -163,7 +164,9 @@ unfolding byteRuns
 runs-bits zero m = λ i. omega arith
 runs-bits (suc n) [] = λ i. omega arith
 runs-bits (suc n) (b ∷ bs) =
-    append-bits (byteRun (take 8206 (b ∷ bs))) (byteRuns n (drop 8206 (b ∷ bs))) (run-bits (take 8206 (b ∷ bs))) (runs-bits n (drop 8206 (b ∷ bs)))
+    let run : List ℕ = take 8206 (b ∷ bs) in
+    let rest : List ℕ = drop 8206 (b ∷ bs) in
+    append-bits (byteRun run) (byteRuns n rest) (run-bits run) (runs-bits n rest)
 
 -- The byte-mode stream is made of bits.
 pub stream-bits : (m : List ℕ) → AllBits (byteStream m)
@@ -201,8 +204,10 @@ unfolding byteRun
 run-length m =
     let count : List ℕ = runCount (length m) in
     let switches : List ℕ = bits 5 31 ++ bits 2 0 in
-    omega
-    (arith, length-append (switches ++ count) (byteBits m), length-append switches count, length-append (bits 5 31) (bits 2 0), length-bits 5 31, length-bits 2 0, length-bytes m)
+    let whole = length-append (switches ++ count) (byteBits m) in
+    let head = length-append switches count in
+    let first = length-append (bits 5 31) (bits 2 0) in
+    omega (arith, whole, head, first, length-bits 5 31, length-bits 2 0, length-bytes m)
 
 length-run : (m : List ℕ) → length (byteRun m) ≡ runHead (length m) + 8 * length m
 length-run m = run-length m ∙ ap (λ (x : ℕ). x + 8 * length m) (length-head (length m))
@@ -279,7 +284,9 @@ length-runs (suc n) (b ∷ bs) h = go (length-runs n (drop 8205 bs))
         → length (byteRun (take 8206 (b ∷ bs)) ++ byteRuns n (drop 8206 (b ∷ bs))) ≡ streamLength (suc (length bs))
     go later = elim (decLt (suc (length bs)) 8206) [
       | yes s ↦
-          ap length (only-run 8206 n (b ∷ bs) (omega arith)) ∙ length-run (b ∷ bs) ∙ sym (length-one (suc (length bs)) (omega arith) (omega arith))
+          ap length (only-run 8206 n (b ∷ bs) (omega arith))
+          ∙ length-run (b ∷ bs)
+          ∙ sym (length-one (suc (length bs)) (omega arith) (omega arith))
       | no s ↦
           let left : length (drop 8205 bs) ≡ suc (length bs) - 8206 = length-drop 8205 bs ∙ omega arith in
           length-first 8206 n (b ∷ bs) (omega arith) ∙ ap (λ (x : ℕ). 24 + 8 * 8206 + x) (later (omega arith) ∙ rw left refl)

@@ -36,7 +36,8 @@ stands-at l x y k e =
     (eqb-true (entryColumn l k) x (and-left a b e), eqb-true (entryRow l k) y (and-right a b e))
 
 -- the first entry at an entry's place is that entry
-pub entry-first : (p : Params) (l : List ℕ) → SoundList p l → (k : ℕ) → k < entries l → firstEntry l (entries l) (entryColumn l k) (entryRow l k) ≡ k
+pub entry-first : (p : Params) (l : List ℕ) → SoundList p l → (k : ℕ) → k < entries l
+    → firstEntry l (entries l) (entryColumn l k) (entryRow l k) ≡ k
 unfolding firstEntry
 entry-first p l s k h =
     let f : ℕ → Bool = entryAt l (entryColumn l k) (entryRow l k) in
@@ -45,7 +46,9 @@ entry-first p l s k h =
       | yes before ↦ clash (entry-own l k) (lowest-before f (entries l) 0 k (omega arith) before)
       | no before ↦ elim (ℕ-discrete i k) [
         | yes same ↦ same
-        | no other ↦ absurd (earlier (omega arith) (stands-at l (entryColumn l k) (entryRow l k) i (lowest-holds f (entries l) 0 (omega arith))))
+        | no other ↦
+            let found = lowest-holds f (entries l) 0 (omega arith) in
+            absurd (earlier (omega arith) (stands-at l (entryColumn l k) (entryRow l k) i found))
       ]
     ]
   where
@@ -53,22 +56,28 @@ entry-first p l s k h =
         → (entryColumn l (lowest (entryAt l (entryColumn l k) (entryRow l k)) (entries l) 0) ≡ entryColumn l k)
         × (entryRow l (lowest (entryAt l (entryColumn l k) (entryRow l k)) (entries l) 0) ≡ entryRow l k)
         → ⊥
-    earlier less same = entries-differ p l s (lowest (entryAt l (entryColumn l k) (entryRow l k)) (entries l) 0) k less h (same .0) (same .1)
+    earlier less same =
+        let i : ℕ = lowest (entryAt l (entryColumn l k) (entryRow l k)) (entries l) 0 in
+        entries-differ p l s i k less h (same .0) (same .1)
 
-pub entry-cell : (p : Params) (l : List ℕ) → SoundList p l → (k : ℕ) → k < entries l → cellOf p l (entryColumn l k) (entryRow l k) ≡ Fixed (entryColour l k)
+pub entry-cell : (p : Params) (l : List ℕ) → SoundList p l → (k : ℕ) → k < entries l
+    → cellOf p l (entryColumn l k) (entryRow l k) ≡ Fixed (entryColour l k)
 unfolding cellOf
 entry-cell p l s k h = rw (entry-first p l s k h, lt-ltb k (entries l) h) refl
 
 -- no entry of a sound list stands on a pattern
-pub pattern-unlisted : (p : Params) (l : List ℕ) → SoundList p l → (x y : ℕ) → covered (patternColour p x y) ≡ true → listed l (entries l) x y ≡ false
+pub pattern-unlisted : (p : Params) (l : List ℕ) → SoundList p l → (x y : ℕ) → covered (patternColour p x y) ≡ true
+    → listed l (entries l) x y ≡ false
 unfolding firstEntry
 pattern-unlisted p l s x y on =
-    by (ltb (lowest (entryAt l x y) (entries l) 0) (entries l)) (λ e. at-entry (ltb-true (lowest (entryAt l x y) (entries l) 0) (entries l) e)) (λ e. e)
+    let k : ℕ = lowest (entryAt l x y) (entries l) 0 in
+    by (ltb k (entries l)) (λ e. at-entry (ltb-true k (entries l) e)) (λ e. e)
   where
     at-entry : lowest (entryAt l x y) (entries l) 0 < entries l → ltb (lowest (entryAt l x y) (entries l) 0) (entries l) ≡ false
     at-entry h =
         let k : ℕ = lowest (entryAt l x y) (entries l) 0 in
-        let place : (entryColumn l k ≡ x) × (entryRow l k ≡ y) = stands-at l x y k (lowest-holds (entryAt l x y) (entries l) 0 (omega arith)) in
+        let place : (entryColumn l k ≡ x) × (entryRow l k ≡ y) =
+        stands-at l x y k (lowest-holds (entryAt l x y) (entries l) 0 (omega arith)) in
         let off : covered (patternColour p (entryColumn l k) (entryRow l k)) ≡ false = s .entry k h .on-no-pattern in
         clash on (rw (place .0, place .1) at off)
 
@@ -125,4 +134,6 @@ entry-kept p l bs s k h =
     let column : c + 1 ≡ entryColumn l k = omega (arith, s .entry k h .column-least) in
     let row : r + 1 ≡ entryRow l k = omega (arith, s .entry k h .row-least) in
     let cell : cellAt p l c r ≡ Fixed (entryColour l k) = rw (column, row) (entry-cell p l s k h) in
-    fixed-kept p l bs c r (entryColour l k) (omega (arith, s .entry k h .column-most, s .entry k h .column-least)) (omega (arith, s .entry k h .row-most, s .entry k h .row-least)) cell
+    let e = s .entry k h in
+    fixed-kept p l bs c r (entryColour l k)
+    (omega (arith, e .column-most, e .column-least)) (omega (arith, e .row-most, e .row-least)) cell

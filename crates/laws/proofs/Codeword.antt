@@ -5,7 +5,9 @@ use Prim.Native.Nat.{ℕ, zero, suc, _+_, _-_, _%_, _≤_, _<_}
 use mathlib.Core.Path.{_≡_, refl, sym, ap, ap₂, _∙_, subst⁻¹}
 use mathlib.Core.Bool.{Bool, true, false, cond, not, _&&_}
 use mathlib.Core.Logic.{_⊎_, inl, inr}
-use mathlib.Core.List.{List, [], _∷_, _++_, map, List·Memᴰ, List·Memᴰ·head, List·Memᴰ·tail, List·Memᴰ·not-nil, List·Memᴰ·cases-cons, List·Memᴰ·append-cases, List·Memᴰ·eq-of-singleton, Memᴰ·append-left, Memᴰ·append-right, Memᴰ·cast, Memᴰ·map, Memᴰ·of-map}
+use mathlib.Core.List.{List, [], _∷_, _++_, map, List·Memᴰ, List·Memᴰ·head, List·Memᴰ·tail, List·Memᴰ·not-nil}
+use mathlib.Core.List.{List·Memᴰ·cases-cons, List·Memᴰ·append-cases, List·Memᴰ·eq-of-singleton}
+use mathlib.Core.List.{Memᴰ·append-left, Memᴰ·append-right, Memᴰ·cast, Memᴰ·map, Memᴰ·of-map}
 use native.Mathlib.Nat.{add-zero, sub-zero, suc-sub-suc}
 use native.Mathlib.Omega.{arith}
 use native.Mathlib.Decide.{ℕ-discrete, decLt}
@@ -52,7 +54,9 @@ unfolding those carries
 carries-at zero f m w e c h t = absurd (omega arith)
 carries-at (suc n) f m w e c h t =
     elim (ℕ-discrete c n) [
-      | yes s ↦ subst⁻¹ (λ (c : ℕ). getD w c 0 ≡ getD m (length (those c f)) 0) s (last (f n) (sym (ap f s) ∙ t) (and-right earlier later both))
+      | yes s ↦
+          let at-last = last (f n) (sym (ap f s) ∙ t) (and-right earlier later both) in
+          subst⁻¹ (λ (c : ℕ). getD w c 0 ≡ getD m (length (those c f)) 0) s at-last
       | no s ↦ carries-at n f m w (and-left earlier later both) c (omega arith) t
     ]
   where
@@ -65,10 +69,13 @@ carries-at (suc n) f m w e c h t =
     both : (earlier && later) ≡ true
     both = sym (carries-append (those n f) (cond (f n) (n ∷ []) []) m w) ∙ e
 
-    last : (b : Bool) → b ≡ true → carries (cond b (n ∷ []) []) (drop (length (those n f)) m) w ≡ true → getD w n 0 ≡ getD m (length (those n f)) 0
+    last : (b : Bool) → b ≡ true → carries (cond b (n ∷ []) []) (drop (length (those n f)) m) w ≡ true
+        → getD w n 0 ≡ getD m (length (those n f)) 0
     last true t o =
-        eqb-true (getD w n 0) (getD (drop (length (those n f)) m) 0 0) (and-left (eqb (getD w n 0) (getD (drop (length (those n f)) m) 0 0)) true o)
-        ∙ getD-drop (length (those n f)) m 0 0 ∙ ap (λ (x : ℕ). getD m x 0) (add-zero (length (those n f)))
+        let past : ℕ = length (those n f) in
+        let next : ℕ = getD (drop past m) 0 0 in
+        eqb-true (getD w n 0) next (and-left (eqb (getD w n 0) next) true o)
+        ∙ getD-drop past m 0 0 ∙ ap (λ (x : ℕ). getD m x 0) (add-zero past)
     last false t o = clash t refl
 
 -- and such a word carries the message
@@ -269,8 +276,8 @@ module _ (k n : ℕ) (a : BitMatrix) (m : List ℕ) (bits : AllBits m) where
 
 -- ---- from elimination
 
--- Elimination to the end gives the codeword: the message's bits in the message columns, and in each check column the sum of the earlier bits
--- in the ones of its row.
+-- Elimination to the end gives the codeword: the message's bits in the message columns, and in each check column the sum of the earlier
+-- bits in the ones of its row.
 pub codeword-filled : (k n : ℕ) (a : BitMatrix) (m : List ℕ) (r : BitMatrix) (used : ℕ → Bool) (row : ℕ → ℕ)
     → Inv k n a (isCheckColumn k n a) r used row 0 → (w : List ℕ) → length w ≡ n → AllBits w
     → ((c : ℕ) → c < n → isCheckColumn k n a c ≡ false → getD w c 0 ≡ getD m (length (those c (λ j. not (isCheckColumn k n a j)))) 0)

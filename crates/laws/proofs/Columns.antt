@@ -35,7 +35,8 @@ sum-without : (k : ℕ) (d : ℕ → Bool) (ds : List (ℕ → Bool)) (v : ℕ �
 unfolding isSum
 sum-without k d ds v e = ap (λ (b : Bool). b || isSum k ds (λ i. xor (v i) (d i))) e
 
-sum-with : (k : ℕ) (d : ℕ → Bool) (ds : List (ℕ → Bool)) (v : ℕ → Bool) → isSum k ds (λ i. xor (v i) (d i)) ≡ true → isSum k (d ∷ ds) v ≡ true
+sum-with : (k : ℕ) (d : ℕ → Bool) (ds : List (ℕ → Bool)) (v : ℕ → Bool) → isSum k ds (λ i. xor (v i) (d i)) ≡ true
+    → isSum k (d ∷ ds) v ≡ true
 unfolding isSum
 sum-with k d ds v e = ap (λ (b : Bool). isSum k ds v || b) e ∙ or-true (isSum k ds v)
 
@@ -46,7 +47,8 @@ pub record SumWord (k n : ℕ) (a : BitMatrix) (l : List ℕ) (v : ℕ → Bool)
   pub adds : (i : ℕ) → i < k → dot n (a i) word ≡ v i
 
 -- A sum of columns of a list gives such a word.
-pub sum-word : (k n : ℕ) (a : BitMatrix) (l : List ℕ) (v : ℕ → Bool) → ((c : ℕ) → has c l ≡ true → c < n) → isSum k (map (column a) l) v ≡ true
+pub sum-word : (k n : ℕ) (a : BitMatrix) (l : List ℕ) (v : ℕ → Bool) → ((c : ℕ) → has c l ≡ true → c < n)
+    → isSum k (map (column a) l) v ≡ true
     → SumWord k n a l v
 unfolding isSum
 sum-word k n a [] v low e = record {
@@ -77,7 +79,8 @@ pub word-sum : (k n : ℕ) (a : BitMatrix) (l : List ℕ) (v w : ℕ → Bool) �
 unfolding isSum
 word-sum k n a [] v w low inside adds =
     all-below (λ i. not (v i)) k
-    (λ i h. ap not (sym (adds i h) ∙ parity-none n (λ j. a i j && w j) (λ j g. and-no (a i j) (w j) (λ o. clash (inside j g o) (has-none j)))))
+    (λ i h. ap not (sym (adds i h)
+    ∙ parity-none n (λ j. a i j && w j) (λ j g. and-no (a i j) (w j) (λ o. clash (inside j g o) (has-none j)))))
 word-sum k n a (x ∷ l) v w low inside adds =
     by (w x)
     (λ o. sum-with k (column a x) (map (column a) l) v
@@ -137,7 +140,10 @@ module _ (k n : ℕ) (a : BitMatrix) where
       (λ s. ap (has (n - suc m)) (column-take m s) ∙ has-first (n - suc m) (checkColumns k n a m) ∙ sym (ap not s))
     where
       none : has (n - suc m) (checkColumns k n a m) ≡ false
-      none = by (has (n - suc m) (checkColumns k n a m)) (λ o. absurd (let p = taken-last m (omega arith) (n - suc m) o in omega arith)) (λ z. z)
+      none =
+          by (has (n - suc m) (checkColumns k n a m))
+          (λ o. absurd (let p = taken-last m (omega arith) (n - suc m) o in omega arith))
+          (λ z. z)
 
   -- what is once passed is settled
   settled : (m d c : ℕ) → m + d ≤ n → n - m ≤ c → has c (checkColumns k n a (m + d)) ≡ has c (checkColumns k n a m)
@@ -164,7 +170,8 @@ module _ (k n : ℕ) (a : BitMatrix) where
       ]
 
   -- Going from the last column to the first, a column is a check column exactly when it is no sum of the check columns already taken.
-  pub check-literal : (j : ℕ) → j < n → isCheckColumn k n a j ≡ not (isSum k (map (λ c i. a i c) (checkColumns k n a (n - suc j))) (λ i. a i j))
+  pub check-literal : (j : ℕ) → j < n
+      → isCheckColumn k n a j ≡ not (isSum k (map (λ c i. a i c) (checkColumns k n a (n - suc j))) (λ i. a i j))
   check-literal j h =
       let m : ℕ = n - suc j in
       let e : n - suc m ≡ j = omega arith in

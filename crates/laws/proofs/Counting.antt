@@ -83,13 +83,15 @@ number-quotient w r (suc t) h =
     ap (λ (k : ℕ). length (those k f)) (suc-mul t w) ∙ number-split f (t * w) w in
     elim (ℕ-discrete r t) [
       | yes e ↦
-          let early : length (those (t * w) f) ≡ 0 = number-none f (t * w) (λ c l. ne-eqb (c / w) r (λ (s : c / w ≡ r). omega (arith, less c l))) in
+          let early : length (those (t * w) f) ≡ 0 =
+          number-none f (t * w) (λ c l. ne-eqb (c / w) r (λ (s : c / w ≡ r). omega (arith, less c l))) in
           let all : length (those w (λ i. f (t * w + i))) ≡ w =
           number-all (λ i. f (t * w + i)) w (λ i l. eq-eqb ((t * w + i) / w) r (quotient i l ∙ sym e)) in
           omega arith
       | no e ↦
           let late : length (those w (λ i. f (t * w + i))) ≡ 0 =
-          number-none (λ i. f (t * w + i)) w (λ i l. ne-eqb ((t * w + i) / w) r (λ (s : (t * w + i) / w ≡ r). omega (arith, quotient i l))) in
+          number-none (λ i. f (t * w + i)) w
+          (λ i l. ne-eqb ((t * w + i) / w) r (λ (s : (t * w + i) / w ≡ r). omega (arith, quotient i l))) in
           omega (arith, number-quotient w r t (omega arith))
     ]
   where
@@ -200,7 +202,9 @@ module _ (n : ℕ) (f : ℕ → Bool) (row : ℕ → ℕ)
   -- no more numbers pass a test than there are rows, if each has a row of its own
   pub rows-bound : (k : ℕ) → ((c : ℕ) → c < n → f c ≡ true → row c < k) → length (those n f) ≤ k
   rows-bound k low =
-      omega (arith, number-rows k, number-none (λ c. false) n (λ c h. refl), number-parts n f (λ c. f c && ltb (row c) k) (λ c. false) (λ c h. go c h))
+      let none = number-none (λ c. false) n (λ c h. refl) in
+      let parts = number-parts n f (λ c. f c && ltb (row c) k) (λ c. false) (λ c h. go c h) in
+      omega (arith, number-rows k, none, parts)
     where
       go : (c : ℕ) → c < n → tally (f c) ≤ tally (f c && ltb (row c) k) + 0
       go c h =

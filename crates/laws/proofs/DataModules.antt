@@ -21,7 +21,8 @@ use Rattle.symbology.specs.Capacity.{patternModules, dataModules}
 use Rattle.symbology.specs.Placement.{patternCell, cellOf, isData, columnData}
 use Rattle.laws.proofs.Sums.{sum-ext, sum-add, sum-const, sum-point}
 use Rattle.laws.proofs.Patterns.{pattern-count}
-use Rattle.laws.proofs.Reserved.{SoundEntry, SoundList, sound-list, listed, listed-more, listed-none, entry-own, entry-column, entry-row}
+use Rattle.laws.proofs.Reserved.{SoundEntry, SoundList, sound-list, listed, listed-more}
+use Rattle.laws.proofs.Reserved.{listed-none, entry-own, entry-column, entry-row}
 
 -- ---- data modules
 
@@ -65,7 +66,8 @@ free-same p l n x y e = rw (listed-more l n x y, e) (go (listed l n x y))
 free-taken : (p : Params) (l : List ℕ) (n x y : ℕ) → x ≡ entryColumn l n → y ≡ entryRow l n → SoundEntry p l n
     → tally (free p l n x y) ≡ tally (free p l (suc n) x y) + 1
 free-taken p l n x y a b s =
-    let new : listed l n (entryColumn l n) (entryRow l n) ≡ false = le-ltb (firstEntry l n (entryColumn l n) (entryRow l n)) n (s .named-once) in
+    let new : listed l n (entryColumn l n) (entryRow l n) ≡ false =
+    le-ltb (firstEntry l n (entryColumn l n) (entryRow l n)) n (s .named-once) in
     rw (a, b, listed-more l n (entryColumn l n) (entryRow l n), entry-own l n, s .on-no-pattern, new)
 
 -- so each entry takes one module

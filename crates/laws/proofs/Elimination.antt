@@ -12,16 +12,19 @@ use borrow.Author.Tests.{eq-eqb, ne-eqb, lt-ltb, le-ltb, ltb-true}
 use Rattle.symbology.specs.Matrix.{BitMatrix}
 use Rattle.symbology.proofs.Ranges.{clash, and-left, and-right}
 use Rattle.laws.proofs.Ranges.{by, or-right}
-use Rattle.laws.proofs.Gf2.{parity-short, parity-none, parity-only, dot-ext, xor-dot, scale-dot, meets-ext, xor-none, xor-same, and-no}
+use Rattle.laws.proofs.Gf2.{parity-short, parity-none, parity-only, dot-ext, xor-dot}
+use Rattle.laws.proofs.Gf2.{scale-dot, meets-ext, xor-none, xor-same, and-no}
 use Rattle.laws.specs.Gf2.{parity, dot, Meets}
 use Rattle.laws.proofs.Kernel.{Dependency, CheckColumnLaws}
 use Rattle.laws.specs.Elimination.{Pivot, Inv}
 
 -- The dot product with a row whose last 1 stands in column c.
-lead-dot : (n : ℕ) (f w : ℕ → Bool) (c : ℕ) → c < n → f c ≡ true → ((d : ℕ) → c < d → d < n → f d ≡ false) → dot n f w ≡ xor (dot c f w) (w c)
+lead-dot : (n : ℕ) (f w : ℕ → Bool) (c : ℕ) → c < n → f c ≡ true → ((d : ℕ) → c < d → d < n → f d ≡ false)
+    → dot n f w ≡ xor (dot c f w) (w c)
 unfolding parity
 lead-dot n f w c h o z =
-    parity-short (suc c) n (λ d. f d && w d) h (λ d g l. ap (λ (b : Bool). b && w d) (z d g l)) ∙ ap (λ (b : Bool). xor (dot c f w) (b && w c)) o
+    parity-short (suc c) n (λ d. f d && w d) h (λ d g l. ap (λ (b : Bool). b && w d) (z d g l))
+    ∙ ap (λ (b : Bool). xor (dot c f w) (b && w c)) o
 
 module _ (k n : ℕ) (a : BitMatrix) (chk : ℕ → Bool) where
   -- Before the first step the matrix is a itself, and no row is used.
@@ -41,7 +44,9 @@ module _ (k n : ℕ) (a : BitMatrix) (chk : ℕ → Bool) where
 
   -- What holds of a matrix, its used rows and its pivots' rows holds of any that agree with them inside the bounds.
   pub inv-ext : (r r′ : BitMatrix) (used used′ : ℕ → Bool) (row row′ : ℕ → ℕ) (j : ℕ) → Inv k n a chk r used row j
-      → ((i : ℕ) → i < k → (c : ℕ) → c < n → r′ i c ≡ r i c) → ((i : ℕ) → i < k → used′ i ≡ used i) → ((c : ℕ) → j ≤ c → c < n → row′ c ≡ row c)
+      → ((i : ℕ) → i < k → (c : ℕ) → c < n → r′ i c ≡ r i c)
+      → ((i : ℕ) → i < k → used′ i ≡ used i)
+      → ((c : ℕ) → j ≤ c → c < n → row′ c ≡ row c)
       → Inv k n a chk r′ used′ row′ j
   inv-ext r r′ used used′ row row′ j inv er eu ew = record {
     to = λ w m. meets-ext k n r r′ w w (λ i h c g. sym (er i h c g)) (λ c g. refl) (inv .to w m);
@@ -211,8 +216,8 @@ module _ (k n : ℕ) (a : BitMatrix) (chk : ℕ → Bool) where
               | no e ↦ (omega arith, p .1, p .2)
             ]
 
-    -- A check column with a 1 in the unused row t: row t is added to every other unused row with a 1 in the column, and is the column's own.
-    -- `added` tells the rows that it is added to.
+    -- A check column with a 1 in the unused row t: row t is added to every other unused row with a 1 in the column, and is the column's
+    -- own. `added` tells the rows that it is added to.
     pub pivot-step : (j : ℕ) → j < n → Inv k n a chk r used row (suc j) → chk j ≡ true → (t : ℕ) → t < k → used t ≡ false → r t j ≡ true
         → (added : ℕ → Bool) → added t ≡ false → ((i : ℕ) → i < k → used i ≡ true → added i ≡ false)
         → ((i : ℕ) → i < k → used i ≡ false → (i ≡ t → ⊥) → added i ≡ r i j)
@@ -224,13 +229,21 @@ module _ (k n : ℕ) (a : BitMatrix) (chk : ℕ → Bool) where
       to = λ w m i g.
           sums w i g ∙ ap₂ xor (inv .to w m i g) (ap (λ (b : Bool). added i && b) (inv .to w m t l) ∙ and-false (added i)) ∙ xor-none false;
       from = λ w m. inv .from w (back w m);
-      row-lt = λ c p. split c p (λ e. subst⁻¹ (λ (x : ℕ). x < k) (first c e) l) (λ q. subst⁻¹ (λ (x : ℕ). x < k) (rest c q) (inv .row-lt c q));
+      row-lt = λ c p. split c p
+          (λ e. subst⁻¹ (λ (x : ℕ). x < k) (first c e) l)
+          (λ q. subst⁻¹ (λ (x : ℕ). x < k) (rest c q) (inv .row-lt c q));
       row-used = λ c p. split c p
           (λ e. ap used′ (first c e) ∙ eu t l ∙ ap (λ (b : Bool). b || used t) (eq-eqb t t refl))
-          (λ q. ap used′ (rest c q) ∙ eu (row c) (inv .row-lt c q) ∙ ap (λ (b : Bool). eqb (row c) t || b) (inv .row-used c q) ∙ or-true (eqb (row c) t));
+          (λ q.
+          ap used′ (rest c q)
+          ∙ eu (row c) (inv .row-lt c q)
+          ∙ ap (λ (b : Bool). eqb (row c) t || b) (inv .row-used c q)
+          ∙ or-true (eqb (row c) t));
       row-one = λ c d p q e. split c p
           (λ f. split d q (λ g. f ∙ sym g) (λ g. absurd (fresh d g (sym (rest d g) ∙ sym e ∙ first c f))))
-          (λ f. split d q (λ g. absurd (fresh c f (sym (rest c f) ∙ e ∙ first d g))) (λ g. inv .row-one c d f g (sym (rest c f) ∙ e ∙ rest d g)));
+          (λ f. split d q
+          (λ g. absurd (fresh c f (sym (rest c f) ∙ e ∙ first d g)))
+          (λ g. inv .row-one c d f g (sym (rest c f) ∙ e ∙ rest d g)));
       lead = λ c p. split c p
           (λ e. ap₂ r′ (first c e) e ∙ unchanged t l own-not j h ∙ o)
           (λ q. ap (λ (x : ℕ). r′ x c) (rest c q) ∙ pivot-kept c q c (p .1) ∙ inv .lead c q);
@@ -295,7 +308,9 @@ module _ (k n : ℕ) (a : BitMatrix) (chk : ℕ → Bool) where
         → ((c : ℕ) → c < n → chk c ≡ true → w c ≡ dot c (r (row c)) w) → Meets k n a w
     solved inv w fills =
         inv .from w (λ i h.
-        by (used i) (λ u. let o = inv .owner i h u in pivot-met 0 inv w i (o .0) (o .1) (o .2) (fills (o .0) (o .1 .1) (o .1 .2))) (free-row i h))
+        by (used i)
+        (λ u. let o = inv .owner i h u in pivot-met 0 inv w i (o .0) (o .1) (o .2) (fills (o .0) (o .1 .1) (o .1 .2)))
+        (free-row i h))
       where
         free-row : (i : ℕ) → i < k → used i ≡ false → dot n (r i) w ≡ false
         free-row i h u = parity-none n (λ c. r i c && w c) (λ c g. ap (λ (b : Bool). b && w c) (inv .none i h u c (omega arith) g))

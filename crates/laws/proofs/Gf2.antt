@@ -140,7 +140,9 @@ parity-short n zero f h z = let e : n ≡ 0 = omega arith in ap (λ (k : ℕ). p
 parity-short n (suc m) f h z =
     elim (ℕ-discrete n (suc m)) [
       | yes e ↦ ap (λ (k : ℕ). parity k f) (sym e)
-      | no e ↦ ap₂ xor (parity-short n m f (omega arith) (λ i g l. z i g (omega arith))) (z m (omega arith) (omega arith)) ∙ xor-none (parity n f)
+      | no e ↦
+          ap₂ xor (parity-short n m f (omega arith) (λ i g l. z i g (omega arith))) (z m (omega arith) (omega arith))
+          ∙ xor-none (parity n f)
     ]
 
 pub parity-scale : (n : ℕ) (b : Bool) (f : ℕ → Bool) → parity n (λ i. b && f i) ≡ (b && parity n f)
@@ -179,7 +181,9 @@ xor-dot n a b w =
     ∙ parity-xor n (λ j. a j && w j) (λ j. b j && w j)
 
 pub scale-dot : (n : ℕ) (b : Bool) (a w : ℕ → Bool) → dot n (λ j. b && a j) w ≡ (b && dot n a w)
-scale-dot n b a w = parity-ext n (λ j. (b && a j) && w j) (λ j. b && (a j && w j)) (λ j h. go b (a j) (w j)) ∙ parity-scale n b (λ j. a j && w j)
+scale-dot n b a w =
+    parity-ext n (λ j. (b && a j) && w j) (λ j. b && (a j && w j)) (λ j h. go b (a j) (w j))
+    ∙ parity-scale n b (λ j. a j && w j)
   where
     go : (b x y : Bool) → ((b && x) && y) ≡ (b && (x && y))
     go true x y = refl
@@ -242,7 +246,9 @@ unmetCount-snoc (x ∷ cs) c w = omega (arith, unmetCount-snoc cs c w)
 -- one more number added
 pub odd-step : (s y : ℕ) (p : Bool) → s % 2 ≡ tally p → (s + y) % 2 ≡ tally (xor p (eqb (y % 2) 1))
 odd-step s y p e =
-    by (eqb (y % 2) 1) (λ t. rw t (let o : y % 2 ≡ 1 = eqb-true (y % 2) 1 t in odd p e o)) (λ t. rw (t, xor-none p) (even (eqb-false (y % 2) 1 t)))
+    by (eqb (y % 2) 1)
+    (λ t. rw t (let o : y % 2 ≡ 1 = eqb-true (y % 2) 1 t in odd p e o))
+    (λ t. rw (t, xor-none p) (even (eqb-false (y % 2) 1 t)))
   where
     odd : (p : Bool) → s % 2 ≡ tally p → y % 2 ≡ 1 → (s + y) % 2 ≡ tally (xor p true)
     odd true e o = rw (xor-same true) (omega arith)

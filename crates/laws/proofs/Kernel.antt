@@ -66,7 +66,8 @@ module _ (k n : ℕ) (a : BitMatrix) (chk : ℕ → Bool) (law : CheckColumnLaws
           (xor-equal (v m) (w m))
 
   -- Two words of the kernel with the same bits in the message columns are the same.
-  pub unique : (v w : ℕ → Bool) → Meets k n a v → Meets k n a w → ((c : ℕ) → c < n → chk c ≡ false → v c ≡ w c) → (c : ℕ) → c < n → v c ≡ w c
+  pub unique : (v w : ℕ → Bool) → Meets k n a v → Meets k n a w → ((c : ℕ) → c < n → chk c ≡ false → v c ≡ w c)
+      → (c : ℕ) → c < n → v c ≡ w c
   unique v w p q same = unique-below v w p q same n (omega arith)
 
   -- ---- at least one word
@@ -86,7 +87,11 @@ module _ (k n : ℕ) (a : BitMatrix) (chk : ℕ → Bool) (law : CheckColumnLaws
 
   -- it brings the word of the kernel that makes it a sum of check columns
   solution-add : (b : ℕ → Bool) (m : ℕ) → m < n → chk m ≡ false → b m ≡ true → Solution k n a chk b m → Solution k n a chk b (suc m)
-  solution-add b m l t o s = record { word = λ c. xor (s .word c) (d c); met = meets-xor k n a (s .word) d (s .met) (dep .met); given = given }
+  solution-add b m l t o s = record {
+    word = λ c. xor (s .word c) (d c);
+    met = meets-xor k n a (s .word) d (s .met) (dep .met);
+    given = given;
+  }
     where
       d : ℕ → Bool
       d = law .bound m l t .0

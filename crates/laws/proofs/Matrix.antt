@@ -4,7 +4,8 @@ use Prim.Native.Nat.{ℕ, zero, suc, _+_, _*_, _/_, _%_, _≤_, _<_}
 use mathlib.Core.Path.{_≡_, sym, ap, _∙_}
 use mathlib.Core.Bool.{Bool}
 use mathlib.Core.List.{List, Perm, Perm·refl, Perm·trans}
-use native.Mathlib.Nat.{mul-zero, mul-suc, add-zero, mod-lt, mod-eq-of-lt, div-eq-of-lt, mul-add-div, mul-add-mod-self-left, div-lt-iff-lt-mul}
+use native.Mathlib.Nat.{mul-zero, mul-suc, add-zero, mod-lt, mod-eq-of-lt, div-eq-of-lt}
+use native.Mathlib.Nat.{mul-add-div, mul-add-mod-self-left, div-lt-iff-lt-mul}
 use native.Mathlib.Omega.{arith}
 use native.Mathlib.Decide.{decLt}
 use lib.Dec.{eqb}
@@ -13,7 +14,8 @@ use Rattle.symbology.specs.Ranges.{tabulate, those}
 use Rattle.symbology.specs.Generator.{stateAfter}
 use Rattle.symbology.specs.Matrix.{columnOrder, matrixA, checkOf}
 use Rattle.laws.proofs.Ranges.{length-tabulate, getD-tabulate, tabulate-getD}
-use Rattle.laws.proofs.Counting.{count, count-perm, count-tabulate, number-zero, number-ext, number-split, number-one, number-quotient, right-pos, left-pos}
+use Rattle.laws.proofs.Counting.{count, count-perm, count-tabulate, number-zero, number-ext}
+use Rattle.laws.proofs.Counting.{number-split, number-one, number-quotient, right-pos, left-pos}
 use Rattle.laws.proofs.Shuffle.{length-shuffled, shuffled-perm, shuffled-every}
 
 -- ---- the column orders

@@ -91,7 +91,8 @@ upTo-net n stream = upTo-one stream 1 (n - suc (length stream)) refl
 pub net-back : (n : ℕ) (stream : List ℕ) → streamIn (withEndMark n stream) ≡ stream
 unfolding streamIn withEndMark
 net-back n stream =
-    rw (upTo-one stream 1 (n - suc (length stream)) refl) (take-at stream (1 ∷ replicate (n - suc (length stream)) 0) (suc (length stream) - 1) (omega arith))
+    let zeros : ℕ = n - suc (length stream) in
+    rw (upTo-one stream 1 zeros refl) (take-at stream (1 ∷ replicate zeros 0) (suc (length stream) - 1) (omega arith))
 
 -- a stream shorter than the net bits fills them with its end mark and the zeros
 pub length-net : (n : ℕ) (stream : List ℕ) → length stream < n → length (withEndMark n stream) ≡ n

@@ -18,7 +18,8 @@ use Rattle.symbology.specs.declared.PatternColour.{PatternColour}
 use Rattle.symbology.specs.declared.PatternColour.the-variants.{Cyan, Yellow}
 use Rattle.symbology.specs.Ranges.{tally, allBelow, sumFrom}
 use Rattle.symbology.specs.Sides.{columns, rows, coresOf, innerPatterns}
-use Rattle.symbology.specs.Patterns.{nearCore, finder, cornerAlignment, innerAlignment, patternOf, inSquares, colourIn, meeting, patternAt, covered, patternColour}
+use Rattle.symbology.specs.Patterns.{nearCore, finder, cornerAlignment, innerAlignment, patternOf}
+use Rattle.symbology.specs.Patterns.{inSquares, colourIn, meeting, patternAt, covered, patternColour}
 use Rattle.symbology.specs.Parameters.{inRange}
 use Rattle.symbology.specs.Capacity.{patternModules}
 use Rattle.symbology.proofs.Ranges.{below-true}
@@ -93,7 +94,8 @@ allSizes primary p q = sumFrom 0 p (λ i. sumFrom 0 q (sizeAt primary p q i))
 abbrev formula : Bool → ℕ → ℕ → ℕ
 formula primary p q = 7 * (p * q - 4) + cond primary 68 28
 
-sizes-right : (primary : Bool) → allBelow 8 (λ p. allBelow 8 (λ q. eqb (allSizes primary (p + 2) (q + 2)) (formula primary (p + 2) (q + 2)))) ≡ true
+sizes-right : (primary : Bool)
+    → allBelow 8 (λ p. allBelow 8 (λ q. eqb (allSizes primary (p + 2) (q + 2)) (formula primary (p + 2) (q + 2)))) ≡ true
 unfolding allBelow sumFrom
 sizes-right true = refl
 sizes-right false = refl

@@ -26,7 +26,8 @@ div-at nan a c C v = absurd v
 div-at (inf s) a c C v = absurd v
 div-at (fin true m e) a c C v = absurd (true≢false (v .0))
 div-at (fin false m e) a c C v =
-    round-same binary32 false (m * up e * 1) (1 * 2 ^ 32 * down e) a (c * 2 ^ 32) (mul-pos (omega arith) (down-pos e)) (mul-pos C (pow-pos 32))
+    round-same binary32 false (m * up e * 1) (1 * 2 ^ 32 * down e) a (c * 2 ^ 32)
+    (mul-pos (omega arith) (down-pos e)) (mul-pos C (pow-pos 32))
     (ap (λ (z : ℕ). z * (c * 2 ^ 32)) (mul-one (m * up e))
     ∙ sym (mul-assoc (m * up e) c (2 ^ 32))
     ∙ ap (λ (z : ℕ). z * 2 ^ 32) (v .1)
@@ -105,7 +106,9 @@ times x y r n v w h =
     let b : nearestSingle (r * n * 2 ^ 117) < 2 ^ 277 = lt-of-le-of-lt (le-trans (le-of-eq e) (mul-le-mul-right (2 ^ 117) h)) (lit≤ tt) in
     let product : r * 2 ^ 117 * (n * 2 ^ 149) ≡ r * n * (2 ^ 117 * 2 ^ 149) = mul-mul-mul-comm r (2 ^ 117) n (2 ^ 149) in
     let same : r * 2 ^ 117 * (n * 2 ^ 149) * 2 ^ 149 ≡ r * n * 2 ^ 117 * (2 ^ 149 * 2 ^ 149) =
-    ap (λ (z : ℕ). z * 2 ^ 149) product ∙ mul-assoc (r * n) (2 ^ 117 * 2 ^ 149) (2 ^ 149) ∙ sym (mul-assoc (r * n) (2 ^ 117) (2 ^ 149 * 2 ^ 149)) in
+    ap (λ (z : ℕ). z * 2 ^ 149) product
+    ∙ mul-assoc (r * n) (2 ^ 117 * 2 ^ 149) (2 ^ 149)
+    ∙ sym (mul-assoc (r * n) (2 ^ 117) (2 ^ 149 * 2 ^ 149)) in
     subst (λ (f : Float). HasValue f false (nearestSingle (r * n) * 2 ^ 117) (2 ^ 149))
     (sym (mul-at x y (r * 2 ^ 117) (2 ^ 149) (n * 2 ^ 149) (2 ^ 149) (pow-pos 149) (pow-pos 149) v w))
     (subst (λ (z : ℕ). HasValue (round binary32 false (r * 2 ^ 117 * (n * 2 ^ 149)) (2 ^ 149 * 2 ^ 149)) false z (2 ^ 149)) e
@@ -129,7 +132,8 @@ module _ (d n : ℕ) (small : d < 2 ^ 32) (few : n ≤ 4096) where
       subst (λ (z : ℕ). HasValue (ofInt binary32 (pos n)) false (z * 2 ^ 149) (2 ^ 149)) (single-few n few)
       (of-int n (omega (arith, single-few n few))) in
       times (div binary32 (ofInt binary32 (pos d)) (fin false 1 (pos 32))) (ofInt binary32 (pos n)) r n
-      (share (ofInt binary32 (pos d)) r (of-int d (single-draw d small)) (single-twice d) (single-draw d small)) y (omega (arith, product-le))
+      (share (ofInt binary32 (pos d)) r (of-int d (single-draw d small)) (single-twice d) (single-draw d small)) y
+      (omega (arith, product-le))
 
   whole-part : nearestSingle (nearestSingle d * n) * 2 ^ 117 / 2 ^ 149 ≡ nearestSingle (nearestSingle d * n) / 2 ^ 32
   whole-part =

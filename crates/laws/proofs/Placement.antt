@@ -24,7 +24,8 @@ use Rattle.symbology.specs.Capacity.{bitsPerModule}
 use Rattle.symbology.specs.Parameters.{inRange}
 use Rattle.symbology.specs.Patterns.{patternColour}
 use Rattle.symbology.specs.Reserved.{entries, entryColour, firstEntry}
-use Rattle.symbology.specs.Placement.{patternCell, cellOf, isData, cellAt, columnData, rank, maskAt, unmaskedIndex, dataModule, onCell, moduleAt, filled, unmasked, masked, cellBits, bitsAt, sampled, firstBadModule}
+use Rattle.symbology.specs.Placement.{patternCell, cellOf, isData, cellAt, columnData, rank, maskAt, unmaskedIndex, dataModule}
+use Rattle.symbology.specs.Placement.{onCell, moduleAt, filled, unmasked, masked, cellBits, bitsAt, sampled, firstBadModule}
 use Rattle.laws.specs.Sampling.{taken}
 use Rattle.laws.proofs.Ranges.{lowest-none, length-tabulate, tabulate-ext, getD-tabulate}
 use Rattle.laws.proofs.Sums.{sum-ext, sum-scale, length-join, join-snoc}

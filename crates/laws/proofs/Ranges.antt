@@ -104,7 +104,10 @@ unfolding lowest
 lowest-before f zero j i a b = absurd (omega arith)
 lowest-before f (suc n) j i a b =
     by (f j) (λ e. absurd (omega (arith, lowest-found f n j e)))
-    (λ e. elim (ℕ-discrete i j) [ yes s ↦ subst⁻¹ (λ (k : ℕ). f k ≡ false) s e | no s ↦ lowest-before f n (suc j) i (omega arith) (omega (arith, lowest-skip f n j e)) ])
+    (λ e. elim (ℕ-discrete i j) [
+      | yes s ↦ subst⁻¹ (λ (k : ℕ). f k ≡ false) s e
+      | no s ↦ lowest-before f n (suc j) i (omega arith) (omega (arith, lowest-skip f n j e))
+    ])
 
 pub lowest-none : (f : ℕ → Bool) (n j : ℕ) → ((i : ℕ) → j ≤ i → i < j + n → f i ≡ false) → lowest f n j ≡ j + n
 lowest-none f n j h =
@@ -244,7 +247,10 @@ unfolding those has
 has-those f zero j h = absurd (omega arith)
 has-those f (suc n) j h =
     elim (ℕ-discrete j n) [
-      | yes e ↦ rw e (has-append n (those n f) (cond (f n) (n ∷ []) []) ∙ go (f n) (has n (those n f)) (has-those-past f n n (omega arith)) (eq-eqb n n refl))
+      | yes e ↦
+          rw e
+          (has-append n (those n f) (cond (f n) (n ∷ []) [])
+          ∙ go (f n) (has n (those n f)) (has-those-past f n n (omega arith)) (eq-eqb n n refl))
       | no e ↦ has-skipped f n j e ∙ has-those f n j (omega arith)
     ]
   where

@@ -67,7 +67,8 @@ pub rank-most : (p : Params) (l : List ℕ) (c r : ℕ) → c < columns p → r 
 rank-most p l c r h k = omega (arith, in-column p l c r (rows p) k, rank-column p l c, in-columns p l (suc c) h)
 
 -- A data module inside the symbol has a rank below the number of data modules.
-pub rank-below : (p : Params) (l : List ℕ) (c r : ℕ) → c < columns p → r < rows p → isData (cellAt p l c r) ≡ true → rank p l c r < dataTotal p l
+pub rank-below : (p : Params) (l : List ℕ) (c r : ℕ) → c < columns p → r < rows p → isData (cellAt p l c r) ≡ true
+    → rank p l c r < dataTotal p l
 rank-below p l c r h k e =
     let one : tally (isData (cellAt p l c r)) ≡ 1 = ap tally e in
     omega (arith, rank-next p l c r, rank-most p l c (suc r) h k)

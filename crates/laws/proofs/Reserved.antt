@@ -14,7 +14,8 @@ use Rattle.symbology.specs.declared.ListVerdict.the-variants.{Sound, Fault}
 use Rattle.symbology.specs.Ranges.{within, lowest}
 use Rattle.symbology.specs.Sides.{columns, rows}
 use Rattle.symbology.specs.Patterns.{covered, patternColour}
-use Rattle.symbology.specs.Reserved.{entries, entryColumn, entryRow, entryColour, entryAt, firstEntry, badEntry, badAt, entryVerdict, listVerdict}
+use Rattle.symbology.specs.Reserved.{entries, entryColumn, entryRow, entryColour, entryAt}
+use Rattle.symbology.specs.Reserved.{firstEntry, badEntry, badAt, entryVerdict, listVerdict}
 use Rattle.symbology.proofs.Ranges.{clash, and-left, and-right}
 use Rattle.laws.proofs.Ranges.{and-both, or-left, or-right, lowest-before, lowest-more}
 

@@ -3,7 +3,8 @@
 use Prim.Native.Nat.{ℕ, suc, _+_, _-_, _*_, _/_, _%_, _^_, _≤_, _<_, compare, Ordering, Ordering·lt, Ordering·eq, Ordering·gt}
 use mathlib.Core.Path.{_≡_, refl, sym, ap, _∙_, subst}
 use mathlib.Core.Bool.{not}
-use native.Mathlib.Nat.{le-trans, le-of-eq, le-refl, lt-of-lt-of-le, lt-of-le-of-lt, lt-of-not-le, not-le-of-lt, mul-one, one-mul, mul-assoc, mul-comm, mul-le-mul-right, mul-pos, mul-div-cancel, mul-mod-left, div-add-mod', mod-lt, pow-suc}
+use native.Mathlib.Nat.{le-trans, le-of-eq, le-refl, lt-of-lt-of-le, lt-of-le-of-lt, lt-of-not-le, not-le-of-lt, mul-one, one-mul}
+use native.Mathlib.Nat.{mul-assoc, mul-comm, mul-le-mul-right, mul-pos, mul-div-cancel, mul-mod-left, div-add-mod', mod-lt, pow-suc}
 use native.Mathlib.Omega.{arith}
 use native.Mathlib.Decide.{decLe, decLt}
 use lib.Arith.{lt-of-le-ne}
@@ -43,7 +44,9 @@ closest-whole r u h =
 
 -- q * 2 ^ j in units of 2 ^ k
 in-units : (q j k : ℕ) → k ≤ j → q * 2 ^ (j - k) * 2 ^ k ≡ q * 2 ^ j
-in-units q j k h = mul-assoc q (2 ^ (j - k)) (2 ^ k) ∙ ap (λ (x : ℕ). q * x) (sym (pow-add 2 (j - k) k) ∙ ap (λ (x : ℕ). 2 ^ x) (back j k h))
+in-units q j k h =
+    mul-assoc q (2 ^ (j - k)) (2 ^ k)
+    ∙ ap (λ (x : ℕ). q * x) (sym (pow-add 2 (j - k) k) ∙ ap (λ (x : ℕ). 2 ^ x) (back j k h))
 
 -- ---- the unit
 
@@ -114,7 +117,8 @@ long-shifted a t h =
     let k : ℕ = size a - 24 in
     let more : size (a * 2 ^ t) - 24 ≡ k + t = omega (arith, size-shifted a t (omega arith)) in
     let split : 2 ^ (k + t) ≡ 2 ^ k * 2 ^ t = pow-add 2 k t in
-    let same : a * 2 ^ t * 2 ^ k ≡ a * 2 ^ (k + t) = mul-assoc a (2 ^ t) (2 ^ k) ∙ ap (λ (x : ℕ). a * x) (mul-comm (2 ^ t) (2 ^ k) ∙ sym split) in
+    let same : a * 2 ^ t * 2 ^ k ≡ a * 2 ^ (k + t) =
+    mul-assoc a (2 ^ t) (2 ^ k) ∙ ap (λ (x : ℕ). a * x) (mul-comm (2 ^ t) (2 ^ k) ∙ sym split) in
     ap (λ (x : ℕ). closest (a * 2 ^ t) (2 ^ x) * 2 ^ x) more
     ∙ ap (λ (x : ℕ). x * 2 ^ (k + t)) (closest-same (a * 2 ^ t) (2 ^ (k + t)) a (2 ^ k) (pow-pos (k + t)) (pow-pos k) same)
     ∙ ap (λ (x : ℕ). closest a (2 ^ k) * x) split
@@ -140,7 +144,8 @@ grid-whole num den n pos e =
     let k : ℕ = size n - 24 in
     ap (λ (x : ℕ). closest x (den * 2 ^ (size (x / den) - 24)) * 2 ^ (size (x / den) - 24)) e
     ∙ ap (λ (x : ℕ). closest (n * den) (den * 2 ^ (size x - 24)) * 2 ^ (size x - 24)) (mul-div-cancel n pos)
-    ∙ ap (λ (x : ℕ). x * 2 ^ k) (closest-same (n * den) (den * 2 ^ k) n (2 ^ k) (mul-pos pos (pow-pos k)) (pow-pos k) (mul-assoc n den (2 ^ k)))
+    ∙ ap (λ (x : ℕ). x * 2 ^ k)
+    (closest-same (n * den) (den * 2 ^ k) n (2 ^ k) (mul-pos pos (pow-pos k)) (pow-pos k) (mul-assoc n den (2 ^ k)))
 
 -- ---- rounding by a carry
 

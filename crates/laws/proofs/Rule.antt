@@ -19,7 +19,9 @@ use Rattle.symbology.specs.Matrix.{BitMatrix, checkOf, checksOf}
 use Rattle.symbology.specs.Rule.{bitSum, unmet, unmetCount, unmetAt, metAt, isSuspect, suspect, turned, ends}
 use Rattle.symbology.specs.Steps.{LowestSuspect, Ended}
 use Rattle.symbology.proofs.Ranges.{clash}
-use Rattle.laws.proofs.Ranges.{by, or-left, or-right, or-none, lowest-to, lowest-holds, lowest-before, lowest-none, length-tabulate, getD-tabulate, has-append, has-those-past, lowest-is, those-out, those-ascending, those-in, has-at, Ascending}
+use Rattle.laws.proofs.Ranges.{by, or-left, or-right, or-none, lowest-to, lowest-holds, lowest-before}
+use Rattle.laws.proofs.Ranges.{lowest-none, length-tabulate, getD-tabulate, has-append, has-those-past}
+use Rattle.laws.proofs.Ranges.{lowest-is, those-out, those-ascending, those-in, has-at, Ascending}
 
 -- ---- checks that name no place twice
 
@@ -173,7 +175,8 @@ lowest-suspect cs w j s =
 -- Where the search gives the word's length, no bit is suspect.
 pub suspect-none : (cs : List (List ℕ)) (w : List ℕ) → suspect cs w ≡ length w → (j : ℕ) → j < length w → unmetAt cs w j ≤ metAt cs w j
 unfolding suspect isSuspect
-suspect-none cs w e j h = ltb-false (metAt cs w j) (unmetAt cs w j) (lowest-before (isSuspect cs w) (length w) 0 j (omega arith) (omega arith))
+suspect-none cs w e j h =
+    ltb-false (metAt cs w j) (unmetAt cs w j) (lowest-before (isSuspect cs w) (length w) 0 j (omega arith) (omega arith))
 
 -- Where no bit is suspect, the search gives the word's length.
 pub none-suspect : (cs : List (List ℕ)) (w : List ℕ) → ((j : ℕ) → j < length w → unmetAt cs w j ≤ metAt cs w j) → suspect cs w ≡ length w

@@ -46,4 +46,5 @@ module _ (f : ℕ → Bool) (n k : ℕ) (s : SearchFrom f n k) where
 pub search-at : (f : ℕ → Bool) (n k : ℕ) → k ≤ n → ((i : ℕ) → i < k → f i ≡ false) → SearchFrom f n k
 search-at f n zero h none = search-start f n
 search-at f n (suc k) h none =
-    subst (SearchFrom f n) (add-one k) (search-next f n k (search-at f n k (omega arith) (λ i g. none i (omega arith))) h (none k (omega arith)))
+    let before-it = search-at f n k (omega arith) (λ i g. none i (omega arith)) in
+    subst (SearchFrom f n) (add-one k) (search-next f n k before-it h (none k (omega arith)))

@@ -49,7 +49,8 @@ module _ {A : Type 0} (z : A) where
   exchanged-twice zero zero (x ∷ xs) p q = refl
   exchanged-twice zero (suc j) (x ∷ xs) p q = head-twice x j xs (le-of-suc-le-suc q)
   exchanged-twice (suc i) zero (x ∷ xs) p q = head-twice x i xs (le-of-suc-le-suc p)
-  exchanged-twice (suc i) (suc j) (x ∷ xs) p q = ap (λ (l : List A). x ∷ l) (exchanged-twice i j xs (le-of-suc-le-suc p) (le-of-suc-le-suc q))
+  exchanged-twice (suc i) (suc j) (x ∷ xs) p q =
+      ap (λ (l : List A). x ∷ l) (exchanged-twice i j xs (le-of-suc-le-suc p) (le-of-suc-le-suc q))
 
   set-every : (P : A → Type 0) (v : A) → P v → (j : ℕ) (xs : List A) → ((i : ℕ) → P (getD xs i z)) → (i : ℕ) → P (getD (set xs j v) i z)
   set-every P v p j [] h i = h i

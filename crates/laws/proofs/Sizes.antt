@@ -77,5 +77,6 @@ pub net-fits : (p : Params) (l : List ℕ)
 net-fits p l k =
     let s : Sizes = sizesFor p l in
     let parts : s .net + s .checks ≡ s .gross = gross-parts p l k in
-    let all : s .gross ≤ length (messageColumns (s .checks) (s .gross) (matrixFor s)) + s .checks = enough-columns (s .checks) (s .gross) (matrixFor s) in
+    let all : s .gross ≤ length (messageColumns (s .checks) (s .gross) (matrixFor s)) + s .checks =
+    enough-columns (s .checks) (s .gross) (matrixFor s) in
     omega arith

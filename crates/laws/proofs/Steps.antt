@@ -13,7 +13,8 @@ use Rattle.symbology.specs.Bits.{AllBits}
 use Rattle.symbology.specs.Rule.{bitSum, unmet, unmetCount, suspect, turned, ends, repairs, afterTurns, repairsOf, lastWord, stuck}
 use Rattle.symbology.specs.Steps.{LowestSuspect, Steps, Lowers, Ended}
 use Rattle.laws.proofs.Ranges.{by}
-use Rattle.laws.proofs.Rule.{AllOnce, length-turned, turned-bits, step-lowers, suspect-lowest, lowest-suspect, ends-means, goes-means, ended-ends}
+use Rattle.laws.proofs.Rule.{AllOnce, length-turned, turned-bits, step-lowers, suspect-lowest}
+use Rattle.laws.proofs.Rule.{lowest-suspect, ends-means, goes-means, ended-ends}
 
 -- ---- turned bits
 

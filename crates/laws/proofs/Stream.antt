@@ -18,7 +18,8 @@ use Rattle.symbology.specs.declared.ModeAnswer.{ModeAnswer}
 use Rattle.symbology.specs.declared.ModeAnswer.the-variants.{Next, EndOfMessage, Undefined, Eci, Fnc1}
 use Rattle.symbology.specs.Bits.{value}
 use Rattle.symbology.specs.Ranges.{tabulate, allBelow}
-use Rattle.symbology.specs.Characters.{upperCharacters, lowerCharacters, numericCharacters, punctuationCharacters, mixedCharacters, alphanumericCharacters, utf8, utf8Bytes, characterBytes}
+use Rattle.symbology.specs.Characters.{upperCharacters, lowerCharacters, numericCharacters, punctuationCharacters}
+use Rattle.symbology.specs.Characters.{mixedCharacters, alphanumericCharacters, utf8, utf8Bytes, characterBytes}
 use Rattle.symbology.specs.Modes.{codeWidth, switchOf, charactersOf, bytesOf, modeNumber, endNumber}
 use Rattle.symbology.specs.Stream.{Decoded, Reading, at, over, afterCode, readCode, readCodes, decode}
 use Rattle.symbology.proofs.Ranges.{below-true}
@@ -53,7 +54,8 @@ unfolding readCode
 code-whole m e bs out h = rw (le-leb (codeWidth m e) (length bs) h)
 
 -- a code for which the bits left are too few
-code-cut : (m : Mode) (e : Expected) (bs out : List ℕ) → length bs < codeWidth m e → readCode m e bs out ≡ over (endNumber e (length bs)) out
+code-cut : (m : Mode) (e : Expected) (bs out : List ℕ) → length bs < codeWidth m e
+    → readCode m e bs out ≡ over (endNumber e (length bs)) out
 unfolding readCode
 code-cut m e bs out h = rw (lt-leb (codeWidth m e) (length bs) h)
 
@@ -211,12 +213,15 @@ characters-few : (k : ℕ) (table : List (List ℕ)) → allBelow (length table)
     → (v : ℕ) → length (characterBytes table v) ≤ k
 unfolding characterBytes utf8Bytes
 characters-few k table t v = elim (decLt v (length table)) [
-  | yes h ↦ leb-true (length (utf8Bytes (getD table v []))) k (below-true (λ v. leb (length (utf8Bytes (getD table v []))) k) (length table) t v h)
+  | yes h ↦
+      let few = below-true (λ v. leb (length (utf8Bytes (getD table v []))) k) (length table) t v h in
+      leb-true (length (utf8Bytes (getD table v []))) k few
   | no h ↦ rw (List·getD-eq-default table [] {n = v} (omega arith)) (omega arith)
 ]
 
 latched-few : (m : Mode) (v : ℕ) → length (characterBytes (charactersOf m) v) ≤ 1
-unfolding charactersOf upperCharacters lowerCharacters numericCharacters alphanumericCharacters tabulate allBelow characterBytes utf8Bytes utf8
+unfolding charactersOf upperCharacters lowerCharacters numericCharacters alphanumericCharacters tabulate allBelow characterBytes utf8Bytes
+    utf8
 latched-few Upper v = characters-few 1 upperCharacters refl v
 latched-few Lower v = characters-few 1 lowerCharacters refl v
 latched-few Numeric v = characters-few 1 numericCharacters refl v

@@ -20,7 +20,10 @@ sum-ext f g a (suc n) h =
 pub sum-split : (f : ℕ → ℕ) (a m n : ℕ) → sumFrom a (m + n) f ≡ sumFrom a m f + sumFrom (a + m) n f
 unfolding sumFrom
 sum-split f a zero n = rw (zero-add n, add-zero a, zero-add (sumFrom a n f))
-sum-split f a (suc m) n = rw (suc-add m n) (ap (λ (x : ℕ). f a + x) (sum-split f (suc a) m n ∙ rw (omega-step a m) refl) ∙ sym (add-assoc (f a) (sumFrom (suc a) m f) (sumFrom (a + suc m) n f)))
+sum-split f a (suc m) n =
+    rw (suc-add m n)
+    (ap (λ (x : ℕ). f a + x) (sum-split f (suc a) m n ∙ rw (omega-step a m) refl)
+    ∙ sym (add-assoc (f a) (sumFrom (suc a) m f) (sumFrom (a + suc m) n f)))
   where
     omega-step : (a m : ℕ) → suc a + m ≡ a + suc m
     omega-step a m = omega arith
@@ -88,7 +91,8 @@ sum-point f g d k a (suc n) low high here others =
 -- fewer terms add to no more
 pub sum-prefix : (f : ℕ → ℕ) (a m n : ℕ) → m ≤ n → sumFrom a m f ≤ sumFrom a n f
 sum-prefix f a m n h =
-    let parts : sumFrom a n f ≡ sumFrom a m f + sumFrom (a + m) (n - m) f = ap (λ (k : ℕ). sumFrom a k f) (omega arith) ∙ sum-split f a m (n - m) in
+    let parts : sumFrom a n f ≡ sumFrom a m f + sumFrom (a + m) (n - m) f =
+    ap (λ (k : ℕ). sumFrom a k f) (omega arith) ∙ sum-split f a m (n - m) in
     omega arith
 
 pub sum-scale : (x : ℕ) (f : ℕ → ℕ) (a n : ℕ) → sumFrom a n (λ i. x * f i) ≡ x * sumFrom a n f

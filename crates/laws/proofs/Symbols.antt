@@ -132,7 +132,8 @@ module _ (p : Params) (l : List ℕ) (legal : LegalSymbol p l) where
 pub received-bits : (p : Params) (l matrix : List ℕ) → AllBits (receivedWord p l matrix)
 unfolding receivedWord receivedBits
 received-bits p l matrix =
-    take-bits (sizesFor p l .gross) (receivedBits p l matrix) (unshuffled-every 0 (λ (b : ℕ). b ≤ 1) interleavingSeed (sampled p l matrix) (sampled-bits p l matrix))
+    let bits = unshuffled-every 0 (λ (b : ℕ). b ≤ 1) interleavingSeed (sampled p l matrix) (sampled-bits p l matrix) in
+    take-bits (sizesFor p l .gross) (receivedBits p l matrix) bits
 
 -- and there are Pg of them
 pub length-received : (p : Params) (l matrix : List ℕ)
@@ -140,7 +141,8 @@ pub length-received : (p : Params) (l matrix : List ℕ)
     → length (receivedWord p l matrix) ≡ sizesFor p l .gross
 unfolding receivedWord receivedBits
 length-received p l matrix k =
-    let whole : length (receivedBits p l matrix) ≡ sizesFor p l .capacity = length-unshuffled 0 interleavingSeed (sampled p l matrix) ∙ sampled-whole p l matrix k in
+    let whole : length (receivedBits p l matrix) ≡ sizesFor p l .capacity =
+    length-unshuffled 0 interleavingSeed (sampled p l matrix) ∙ sampled-whole p l matrix k in
     length-take-le (sizesFor p l .gross) (receivedBits p l matrix) (omega (arith, whole, gross-most p l))
 
 -- the checks of a symbol name each of their columns once
