@@ -15,7 +15,8 @@ use Rattle.symbology.specs.Patterns.{nearCore, finder, patternOf, inSquares, co
 use Rattle.symbology.specs.Reserved.{listVerdict, entryVerdict, listNumber, listPlace, entryAt, firstEntry, badEntry, badAt}
 use Rattle.symbology.specs.Capacity.{bitsPerModule, patternModules, dataModules, asBits, capacity, sizesOf}
 use Rattle.symbology.specs.Place.{scaled, rawPlace, placeOf}
-use Rattle.symbology.specs.Rule.{bitSum, unmet, unmetCount, unmetAt, metAt, isSuspect, suspect, turned, ends, repairs, afterTurns, repairsOf, lastWord, stuck}
+use Rattle.symbology.specs.Rule.{bitSum, unmet, unmetCount, unmetAt, metAt, isSuspect, suspect}
+use Rattle.symbology.specs.Rule.{turned, ends, repairs, afterTurns, repairsOf, lastWord, stuck}
 use Rattle.symbology.specs.Stream.{readCode, readCodes, decode, byteRuns, byteStream, byteBits, runCount, byteRun, streamOf}
 use Rattle.symbology.specs.Net.{upToLastOne, streamIn, stuffing, exceeds, withEndMark}
 use Rattle.symbology.specs.Symbol.{sameBits}
@@ -127,5 +128,10 @@ points =
     ∷ []
 
 pub all-points : T (allHold points)
-unfolding allHold lowest tabulate has value bits anyOne rangeTests inRange coreTable coresOf innerPatterns listVerdict entryVerdict listNumber listPlace bitsPerModule patternModules dataModules asBits capacity sizesOf scaled rawPlace placeOf mul div ofInt toUnsigned bitSum unmet unmetCount unmetAt metAt isSuspect suspect turned ends repairs afterTurns repairsOf lastWord stuck readCode readCodes decode byteRuns byteStream upToLastOne streamIn stuffing streamOf sameBits firstOf sizeRows frontRows writeRows earlyRows streamRows writeAnswer streamAnswer readAnswer joinFrom nearCore finder patternOf inSquares colourIn meeting patternAt covered patternColour entryAt firstEntry badEntry badAt withEndMark byteBits runCount byteRun
+unfolding allHold lowest tabulate has value bits anyOne rangeTests inRange coreTable coresOf innerPatterns listVerdict entryVerdict
+    listNumber listPlace bitsPerModule patternModules dataModules asBits capacity sizesOf scaled rawPlace placeOf mul div ofInt toUnsigned
+    bitSum unmet unmetCount unmetAt metAt isSuspect suspect turned ends repairs afterTurns repairsOf lastWord stuck readCode readCodes
+    decode byteRuns byteStream upToLastOne streamIn stuffing streamOf sameBits firstOf sizeRows frontRows writeRows earlyRows streamRows
+    writeAnswer streamAnswer readAnswer joinFrom nearCore finder patternOf inSquares colourIn meeting patternAt covered patternColour
+    entryAt firstEntry badEntry badAt withEndMark byteBits runCount byteRun
 all-points = tt
