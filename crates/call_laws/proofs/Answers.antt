@@ -29,7 +29,8 @@ use Rattle.calls.specs.declared.ReadAnswer.{ReadAnswer}
 use Rattle.calls.specs.Answers.{answer, noCounts, counted, refused, done, countsIn}
 use Rattle.calls.specs.Tests.{Row, firstOf, stuckWord, sizeRows, frontRows, writeRows, earlyRows, streamRows, acceptedRows, isLegal}
 use Rattle.calls.specs.Write.{writeAnswer, matrixAfterWrite, workAfter}
-use Rattle.calls.specs.Read.{messageInAccepted, messageIn, frontAfter, answerFromAccepted, countsOf, answerFromReceived, readAnswer, readRows}
+use Rattle.calls.specs.Read.{messageInAccepted, messageIn, frontAfter, answerFromAccepted}
+use Rattle.calls.specs.Read.{countsOf, answerFromReceived, readAnswer, readRows}
 use Rattle.call_laws.proofs.Tests.{Each, each-all, each-computed, each-map, numbersOf, first-append, first-map, first-keeps}
 use Rattle.call_laws.proofs.Stages.{accepted-table, read-keeps}
 
@@ -136,7 +137,12 @@ read-answer p l matrix work room =
     (λ e.
     each-map (λ r. late r ≡ true) (λ r. r .test ≡ true → ReadAnswerIs (counted c (r .number) (r .place))) (λ r f t. late-is c r f) behind
     (each-computed late behind refl))
-    (λ e fits. record { number-is = refl; place-is = λ other. refl; length-is = λ some. absurd (some refl); counts-are = λ z. clash z refl })
+    (λ e fits. record {
+      number-is = refl;
+      place-is = λ other. refl;
+      length-is = λ some. absurd (some refl);
+      counts-are = λ z. clash z refl;
+    })
 
 -- an answer of 0 is no row's
 never-zero : (Q : ReadAnswer → Type 0) (p : Params) (l matrix : List ℕ) (work room : ℕ)

@@ -23,14 +23,16 @@ use Rattle.laws.proofs.Net.{length-net}
 use Rattle.laws.proofs.Steps.{untouched, untouched-word, met-not-stuck}
 use Rattle.laws.proofs.Sizes.{LegalSymbol}
 use Rattle.laws.proofs.Symbols.{symbol-meets, symbol-message, same-self}
-use Rattle.laws.proofs.Written.{netOf, wordOf, endOf, written-length, written-below, written-bits, written-wide, written-received, written-word}
+use Rattle.laws.proofs.Written.{netOf, wordOf, endOf, written-length, written-below}
+use Rattle.laws.proofs.Written.{written-bits, written-wide, written-received, written-word}
 use Rattle.calls.specs.declared.Answer.{Answer}
 use Rattle.calls.specs.declared.Counts.{Counts}
 use Rattle.calls.specs.Answers.{answer, noCounts, done}
 use Rattle.calls.specs.Tests.{firstOf, passes, noRoom, frontRows, writeRows, earlyRows, isLegal, reachesChecks}
 use Rattle.calls.specs.Write.{writeAnswer, matrixAfterWrite}
 use Rattle.calls.specs.Read.{messageInAccepted, messageIn, frontAfter, answerFromAccepted, countsOf, answerFromReceived, readAnswer}
-use Rattle.call_laws.proofs.Tests.{Legal, legal, legal-is, pass-append, pass-front, first-append, first-hit, first-miss, first-none, first-passed, zero-passes, write-numbered}
+use Rattle.call_laws.proofs.Tests.{Legal, legal, legal-is, pass-append, pass-front, first-append, first-hit}
+use Rattle.call_laws.proofs.Tests.{first-miss, first-none, first-passed, zero-passes, write-numbered}
 use Rattle.call_laws.proofs.Stages.{accepted-message, accepted-done, from-mended, reaches-gives}
 use Rattle.call_laws.proofs.Answers.{done-front}
 

@@ -24,9 +24,12 @@ use Rattle.calls.specs.declared.Counts.{Counts}
 use Rattle.calls.specs.declared.StreamAnswer.{StreamAnswer}
 use Rattle.calls.specs.declared.ReadAnswer.{ReadAnswer}
 use Rattle.calls.specs.Answers.{counted, refused, done, fromStream, streamRefused, streamDone}
-use Rattle.calls.specs.Tests.{Row, firstOf, passes, spareOne, stuckWord, sizeRows, frontRows, earlyRows, streamRows, acceptedRows, isLegal, reachesChecks}
+use Rattle.calls.specs.Tests.{Row, firstOf, passes, spareOne, stuckWord, sizeRows, frontRows}
+use Rattle.calls.specs.Tests.{earlyRows, streamRows, acceptedRows, isLegal, reachesChecks}
 use Rattle.calls.specs.Read.{messageInNet, messageInAccepted, streamAnswer, answerFromAccepted, countsOf, answerFromReceived, readAnswer}
-use Rattle.call_laws.proofs.Tests.{Each, each-all, each-computed, each-map, each-listed, numbersOf, pass-fails, pass-front, pass-behind, first-append, first-hit, first-miss, first-none, first-passed, first-keeps, first-map, Legal, legal}
+use Rattle.call_laws.proofs.Tests.{Each, each-all, each-computed, each-map, each-listed, numbersOf}
+use Rattle.call_laws.proofs.Tests.{pass-fails, pass-front, pass-behind, first-append, first-hit, first-miss}
+use Rattle.call_laws.proofs.Tests.{first-none, first-passed, first-keeps, first-map, Legal, legal}
 
 -- ---- from the net bits
 

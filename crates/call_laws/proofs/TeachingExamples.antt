@@ -63,10 +63,13 @@ the-sizes = refl
 
 -- of a legal symbol, with Pn 2 and Pg 8
 code : List ℕ → List ℕ
-unfolding tabulate those has allBelow temper stateAfter scaled rawPlace placeOf mul div ofInt toUnsigned drawnPlace exchanged shuffledFirst shuffled columnOrder matrixA checkOf checksOf bitSum unmet unmetCount xor isSum checkColumns isCheckColumn messageColumns carries words firstWord codeword codewordFor
+unfolding tabulate those has allBelow temper stateAfter scaled rawPlace placeOf mul div ofInt toUnsigned drawnPlace exchanged shuffledFirst
+    shuffled columnOrder matrixA checkOf checksOf bitSum unmet unmetCount xor isSum checkColumns isCheckColumn messageColumns carries words
+    firstWord codeword codewordFor
 code net = codewordFor small net
 
-codewords : (code (1 ∷ 1 ∷ []) ∷ code (0 ∷ 1 ∷ []) ∷ []) ≡ ((1 ∷ 1 ∷ 0 ∷ 0 ∷ 0 ∷ 0 ∷ 1 ∷ 1 ∷ []) ∷ (0 ∷ 1 ∷ 0 ∷ 0 ∷ 0 ∷ 1 ∷ 1 ∷ 1 ∷ []) ∷ [])
+codewords : (code (1 ∷ 1 ∷ []) ∷ code (0 ∷ 1 ∷ []) ∷ [])
+    ≡ ((1 ∷ 1 ∷ 0 ∷ 0 ∷ 0 ∷ 0 ∷ 1 ∷ 1 ∷ []) ∷ (0 ∷ 1 ∷ 0 ∷ 0 ∷ 0 ∷ 1 ∷ 1 ∷ 1 ∷ []) ∷ [])
 unfolding code
 codewords = refl
 
@@ -113,7 +116,8 @@ matrix = tabulate 441 (λ i. i % 256)
 
 -- the list has one entry, at column 2 of row 1
 underMask : ℕ → List ℕ → List ℕ
-unfolding symbol tabulate lowest coreTable coresOf nearCore finder patternOf inSquares colourIn meeting patternAt patternColour entryAt firstEntry patternCell cellOf isData maskGenerators maskAt masked
+unfolding symbol tabulate lowest coreTable coresOf nearCore finder patternOf inSquares colourIn meeting patternAt patternColour entryAt
+    firstEntry patternCell cellOf isData maskGenerators maskAt masked
 underMask mask m = masked symbol (2 ∷ 1 ∷ 5 ∷ []) mask m
 
 -- two data modules, at column 1 of row 2 and column 21 of row 20, under mask 6; the entry, and the core of UL, which no mask changes
@@ -135,7 +139,8 @@ masked-back = refl
 
 -- none of the tests 1 to 3 applies to the symbol of the codewords above
 none-applies : sizesAnswer symbol reserved .number ≡ 0
-unfolding reserved allHold rangeTests inRange lowest innerPatterns bitsPerModule patternModules dataModules asBits capacity sizesOf entryAt firstEntry badEntry badAt entryVerdict listVerdict listNumber listPlace firstOf sizeRows sizesAnswer
+unfolding reserved allHold rangeTests inRange lowest innerPatterns bitsPerModule patternModules dataModules asBits capacity sizesOf entryAt
+    firstEntry badEntry badAt entryVerdict listVerdict listNumber listPlace firstOf sizeRows sizesAnswer
 none-applies = refl
 
 -- each bit turned
