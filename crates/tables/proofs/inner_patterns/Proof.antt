@@ -31,7 +31,8 @@ down-are : (c : tie.After-wide2) → c .wide2 .result ≡ length (coresOf (c .be
 down-are c = c .wide2 .ensures ∙ ap (λ (r : CoreRow). r .len) (c .before .before .core-row2 .ensures)
 
 -- 2 to 9 of each
-few : (c : tie.After-wide2) → (2 ≤ c .before .wide .result) × (c .before .wide .result ≤ 9) × (2 ≤ c .wide2 .result) × (c .wide2 .result ≤ 9)
+few : (c : tie.After-wide2)
+    → (2 ≤ c .before .wide .result) × (c .before .wide .result ≤ 9) × (2 ≤ c .wide2 .result) × (c .wide2 .result ≤ 9)
 few c =
     let s = c .before .before .before .before in
     let across = cores-least (s .args .horizontal) (s .pre .0) (s .pre .1) in
