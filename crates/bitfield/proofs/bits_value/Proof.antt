@@ -1,6 +1,8 @@
--- `bitfield::bits_value` meets its contract: v is the number that the bits read so far write. Assumes nothing.
+-- `bitfield::bits_value` meets its contract. The invariant: v is the number that the bits read so far write. What falls: `left`, the bits
+-- not read yet. Assumes nothing.
 use Prim.Native.Nat.{ℕ, _+_, _-_, _≤_, _<_}
 use mathlib.Core.Path.{_≡_, sym, ap, _∙_}
+use mathlib.Core.List.{List}
 use native.Mathlib.Omega.{arith}
 use lib.ListN.{length, take, drop}
 use borrow.Author.Needs.{needs}
@@ -27,7 +29,8 @@ room c =
     let a = c .before .before .args in
     let i : ℕ = a .n - c .before .loop .left in
     let fewer : i < a .n = omega (arith, c .loop-test .taken) in
-    let small : value (take i (drop (a .at) (a .bits .now))) < 32768 = value-small i (a .n) (drop (a .at) (a .bits .now)) fewer (c .before .before .pre .1) in
+    let from : List ℕ = drop (a .at) (a .bits .now) in
+    let small : value (take i from) < 32768 = value-small i (a .n) from fewer (c .before .before .pre .1) in
     omega (arith, c .before .loop .inv .1)
 
 mul-v : tie.Need-mul-v Inv-loop μ-loop

@@ -1,4 +1,5 @@
--- `bitfield::put_bits` meets its contract: storing the bits that are left gives what storing all of them gives. Assumes nothing.
+-- `bitfield::put_bits` meets its contract. The invariant: storing the i bits that are left gives what storing all n of them gives, and the
+-- buffer keeps its length. What falls: i, the bits left. Assumes nothing.
 use Prim.Native.Nat.{ℕ, _+_, _-_, _%_, _≤_}
 use mathlib.Core.Path.{_≡_, sym, _∙_}
 use native.Mathlib.Omega.{arith}
@@ -38,7 +39,9 @@ loop-again : tie.Need-loop-again Inv-loop μ-loop
 loop-again c =
     let at : ℕ = c .before .before .args .at in
     let l = c .before .loop in
-    (omega arith, length-set (l .out) (at + (l .i - 1)) (l .rest % 2) ∙ l .inv .1, sym (bits-next (l .out) at (l .i) (l .rest) (c .loop-test .taken)) ∙ l .inv .2)
+    let same-length = length-set (l .out) (at + (l .i - 1)) (l .rest % 2) in
+    let same-rest = bits-next (l .out) at (l .i) (l .rest) (c .loop-test .taken) in
+    (omega arith, same-length ∙ l .inv .1, sym same-rest ∙ l .inv .2)
 
 same-length : tie.Need-same-length Inv-loop μ-loop
 same-length c = c .before .loop .inv .1
