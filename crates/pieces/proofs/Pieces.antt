@@ -67,7 +67,8 @@ left-kept {whole} {rest} {out₀} {out} {at₀} {at} t =
     sym (length-sets out at rest) ∙ ap length (t .stored) ∙ length-sets out₀ at₀ whole
 
 -- what is stored in front of a buffer
-pub stored-front : {piece before after : List ℕ} {next : ℕ} → StoredAt piece 0 before after next → next ≤ length before → take next after ≡ piece
+pub stored-front : {piece before after : List ℕ} {next : ℕ} → StoredAt piece 0 before after next → next ≤ length before
+    → take next after ≡ piece
 stored-front {piece} {before} {next = next} t h =
     let long : length piece ≡ next = omega (arith, t .place) in
     ap (take next) (t .stored ∙ sets-eq piece before 0 (omega arith)) ∙ take-at piece (drop (0 + length piece) before) next long
