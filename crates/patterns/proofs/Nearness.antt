@@ -20,7 +20,8 @@ module _ (cs : List ℕ) (x i : ℕ) (inside : i < length cs) where
   near-found e = rw (drop-cons cs i 0 inside, e)
 
   -- it is not: the search goes on
-  pub near-next : (leb (getD cs i 0) (x + 2) && leb x (getD cs i 0 + 2)) ≡ false → nearCore i (drop i cs) x ≡ nearCore (i + 1) (drop (i + 1) cs) x
+  pub near-next : (leb (getD cs i 0) (x + 2) && leb x (getD cs i 0 + 2)) ≡ false
+      → nearCore i (drop i cs) x ≡ nearCore (i + 1) (drop (i + 1) cs) x
   unfolding nearCore
   near-next e = rw (drop-cons cs i 0 inside, e, add-one i)
 

@@ -1,5 +1,5 @@
 -- `patterns::colour_in` meets its contract. Assumes nothing.
-use Prim.Native.Nat.{max}
+use Prim.Native.Nat.{ℕ, max}
 use mathlib.Core.Path.{_≡_, _∙_, sym, ap₂}
 use mathlib.Core.Bool.{true, false}
 use borrow.Author.Tests.{le-leb, lt-leb, eq-eqb, ne-eqb, not-true, not-false}
@@ -18,14 +18,16 @@ larger-requires : tie.Need-larger-requires
 larger-requires c κs = search needs
 
 -- the larger distance
-distance : (c : tie.After-larger) → c .larger .result ≡ max (offCore (c .before .before .before .args .o)) (offCore (c .before .before .before .args .u))
+distance : (c : tie.After-larger)
+    → c .larger .result ≡ max (offCore (c .before .before .before .args .o)) (offCore (c .before .before .before .args .u))
 distance c = c .larger .ensures ∙ ap₂ max (c .before .before .off-core .ensures) (c .before .off-core2 .ensures)
 
 returns : tie.Need-returns
 unfolding colourIn
 returns c =
-    let a = c .before .before .before .before .before .args in
-    rw (← (distance ((c .before .before))), lt-leb (c .before .before .larger .result) (a .s .reach) (c .if1 .taken))
+    let larger = c .before .before in
+    let a = larger .before .before .before .args in
+    rw (← (distance larger), lt-leb (larger .larger .result) (a .s .reach) (c .if1 .taken))
 
 in-squares-requires : tie.Need-in-squares-requires
 in-squares-requires c κs = search needs
@@ -33,23 +35,37 @@ in-squares-requires c κs = search needs
 returns-2 : tie.Need-returns-2
 unfolding colourIn
 returns-2 c =
-    let a = c .before .before .before .before .before .before .before .args in
-    let squares : inSquares (a .s .falling) (a .o) (a .u) ≡ false = sym (c .before .in-squares .ensures) ∙ not-true (c .before .in-squares .result) (c .if2 .taken) in
-    rw (← (distance ((c .before .before .before .before))), le-leb (c .before .before .before .before .larger .result) (a .s .reach) (c .before .before .if1 .left), squares)
+    let in-squares = c .before .in-squares in
+    let larger = c .before .before .before .before in
+    let a = larger .before .before .before .args in
+    let off : ℕ = larger .larger .result in
+    let squares : inSquares (a .s .falling) (a .o) (a .u) ≡ false =
+    sym (in-squares .ensures) ∙ not-true (in-squares .result) (c .if2 .taken) in
+    rw (← (distance larger), le-leb off (a .s .reach) (c .before .before .if1 .left), squares)
 
 returns-3 : tie.Need-returns-3
 unfolding colourIn
 returns-3 c =
-    let a = c .before .before .before .before .before .before .before .before .args in
-    let squares : inSquares (a .s .falling) (a .o) (a .u) ≡ true = sym (c .before .before .in-squares .ensures) ∙ not-false (c .before .before .in-squares .result) (c .before .if2 .left) in
-    rw (← (distance ((c .before .before .before .before .before))), le-leb (c .before .before .before .before .before .larger .result) (a .s .reach) (c .before .before .before .if1 .left), squares, eq-eqb (c .before .before .before .before .before .larger .result) 1 (c .if3 .taken))
+    let in-squares = c .before .before .in-squares in
+    let larger = c .before .before .before .before .before in
+    let a = larger .before .before .before .args in
+    let off : ℕ = larger .larger .result in
+    let squares : inSquares (a .s .falling) (a .o) (a .u) ≡ true =
+    sym (in-squares .ensures) ∙ not-false (in-squares .result) (c .before .if2 .left) in
+    let within = le-leb off (a .s .reach) (c .before .before .before .if1 .left) in
+    rw (← (distance larger), within, squares, eq-eqb off 1 (c .if3 .taken))
 
 returns-4 : tie.Need-returns-4
 unfolding colourIn
 returns-4 c =
-    let a = c .before .before .before .before .before .before .before .before .args in
-    let squares : inSquares (a .s .falling) (a .o) (a .u) ≡ true = sym (c .before .before .in-squares .ensures) ∙ not-false (c .before .before .in-squares .result) (c .before .if2 .left) in
-    rw (← (distance ((c .before .before .before .before .before))), le-leb (c .before .before .before .before .before .larger .result) (a .s .reach) (c .before .before .before .if1 .left), squares, ne-eqb (c .before .before .before .before .before .larger .result) 1 (c .if3 .left))
+    let in-squares = c .before .before .in-squares in
+    let larger = c .before .before .before .before .before in
+    let a = larger .before .before .before .args in
+    let off : ℕ = larger .larger .result in
+    let squares : inSquares (a .s .falling) (a .o) (a .u) ≡ true =
+    sym (in-squares .ensures) ∙ not-false (in-squares .result) (c .before .if2 .left) in
+    let within = le-leb off (a .s .reach) (c .before .before .before .if1 .left) in
+    rw (← (distance larger), within, squares, ne-eqb off 1 (c .if3 .left))
 
 pub colour-in-spec : {M : Type 1} → statement M
 colour-in-spec =

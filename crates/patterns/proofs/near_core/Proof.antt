@@ -1,4 +1,5 @@
--- `patterns::near_core` meets its contract: the search among all cores is that among those from i on. Assumes nothing.
+-- `patterns::near_core` meets its contract. The invariant: the search among all cores is that among those from i on. What falls: the cores
+-- not looked at yet. Assumes nothing.
 use Prim.Native.Nat.{ℕ, _+_, _-_, _≤_, _<_}
 use mathlib.Core.Path.{_≡_, _∙_, sym, ap}
 use mathlib.Core.Bool.{_&&_}
@@ -16,7 +17,9 @@ use Rattle.patterns.proofs.near_core.Statement.{statement}
 use Rattle.patterns.proofs.near_core.Tie as tie
 
 abbrev Inv-loop : tie.InvT-loop
-Inv-loop x cores n i₀ i = (i ≤ cores .len) × (nearCore 0 (take (cores .len) (cores .at)) x ≡ nearCore i (drop i (take (cores .len) (cores .at))) x)
+Inv-loop x cores n i₀ i =
+    (i ≤ cores .len)
+    × (nearCore 0 (take (cores .len) (cores .at)) x ≡ nearCore i (drop i (take (cores .len) (cores .at))) x)
 
 abbrev μ-loop : tie.MeasureT-loop
 μ-loop x cores n i₀ i = cores .len - i
@@ -47,7 +50,8 @@ core-is c =
     let i : ℕ = c .before .before .before .before .loop .i in
     let n : ℕ = s .args .t1 .len in
     let inside : i < n = omega (arith, c .before .before .before .before .before .wide .ensures) in
-    (omega (arith, length-take-le n (s .args .t1 .at) (omega arith)), c .before .wide2 .ensures .0 ∙ sym (getD-take n (s .args .t1 .at) i 0 inside))
+    let core = c .before .wide2 .ensures .0 ∙ sym (getD-take n (s .args .t1 .at) i 0 inside) in
+    (omega (arith, length-take-le n (s .args .t1 .at) (omega arith)), core)
 
 -- whether the coordinate is near it
 found-is : (c : tie.After-is-near Inv-loop μ-loop)
@@ -65,15 +69,18 @@ sub-t14 : tie.Need-sub-t14 Inv-loop μ-loop
 sub-t14 c =
     let x : ℕ = c .before .before .before .before .before .before .before .args .x in
     let core : ℕ = c .before .before .wide2 .result in
-    omega (arith, leb-true core (x + 2) (and-left (leb core (x + 2)) (leb x (core + 2)) (sym (c .before .is-near .ensures) ∙ c .if1 .taken)))
+    let near = sym (c .before .is-near .ensures) ∙ c .if1 .taken in
+    omega (arith, leb-true core (x + 2) (and-left (leb core (x + 2)) (leb x (core + 2)) near))
 
 returns : tie.Need-returns Inv-loop μ-loop
 returns c =
-    let s = (c .before .before .before .before .before .before .before) in
+    let at-loop = c .before .before .before .before .before in
+    let s = at-loop .before .before in
     let cs : List ℕ = take (s .args .t1 .len) (s .args .t1 .at) in
-    let i : ℕ = c .before .before .before .before .before .loop .i in
-    rw (core-is ((c .before)) .1)
-    (sym (c .before .before .before .before .before .loop .inv .1 ∙ near-found cs (s .args .x) i (core-is ((c .before)) .0) (sym (found-is ((c .before))) ∙ c .if1 .taken)))
+    let i : ℕ = at-loop .loop .i in
+    let core = core-is (c .before) in
+    let found = near-found cs (s .args .x) i (core .0) (sym (found-is (c .before)) ∙ c .if1 .taken) in
+    rw (core .1) (sym (at-loop .loop .inv .1 ∙ found))
 
 add-i : tie.Need-add-i Inv-loop μ-loop
 add-i c = search needs
@@ -83,17 +90,21 @@ loop-less c = search needs
 
 loop-again : tie.Need-loop-again Inv-loop μ-loop
 loop-again c =
-    let s = (c .before .before .before .before .before .before .before) in
+    let at-loop = c .before .before .before .before .before in
+    let s = at-loop .before .before in
     let cs : List ℕ = take (s .args .t1 .len) (s .args .t1 .at) in
-    let i : ℕ = c .before .before .before .before .before .loop .i in
-    (omega (arith, c .before .before .before .before .before .before .wide .ensures), c .before .before .before .before .before .loop .inv .1 ∙ near-next cs (s .args .x) i (core-is ((c .before)) .0) (sym (found-is ((c .before))) ∙ c .if1 .left))
+    let i : ℕ = at-loop .loop .i in
+    let next = near-next cs (s .args .x) i (core-is (c .before) .0) (sym (found-is (c .before)) ∙ c .if1 .left) in
+    (omega (arith, at-loop .before .wide .ensures), at-loop .loop .inv .1 ∙ next)
 
 returns-2 : tie.Need-returns-2 Inv-loop μ-loop
 returns-2 c =
-    let s = (c .before .before .before) in
+    let at-loop = c .before in
+    let s = at-loop .before .before in
     let n : ℕ = s .args .t1 .len in
-    let i : ℕ = c .before .loop .i in
-    sym (c .before .loop .inv .1 ∙ near-none (take n (s .args .t1 .at)) (s .args .x) i (omega (arith, c .before .before .wide .ensures, length-take n (s .args .t1 .at))))
+    let most = length-take n (s .args .t1 .at) in
+    let none = near-none (take n (s .args .t1 .at)) (s .args .x) (at-loop .loop .i) (omega (arith, at-loop .before .wide .ensures, most)) in
+    sym (at-loop .loop .inv .1 ∙ none)
 
 pub near-core-spec : {M : Type 1} → statement M
 near-core-spec =

@@ -18,8 +18,10 @@ inner-alignment-requires c κs = search needs
 returns : tie.Need-returns
 unfolding patternOf
 returns c =
+    let is-outer = c .before .before .is-outer in
     let a = c .before .before .before .args in
-    let across : (eqb (a .i) 0 || eqb (a .i + 1) (a .p)) ≡ false = sym (c .before .before .is-outer .ensures) ∙ not-true (c .before .before .is-outer .result) (c .before .if1 .taken) in
+    let across : (eqb (a .i) 0 || eqb (a .i + 1) (a .p)) ≡ false =
+    sym (is-outer .ensures) ∙ not-true (is-outer .result) (c .before .if1 .taken) in
     rw across (c .inner-alignment .ensures)
 
 is-outer-requires-2 : tie.Need-is-outer-requires-2
@@ -31,9 +33,15 @@ inner-alignment-requires-2 c κs = search needs
 returns-2 : tie.Need-returns-2
 unfolding patternOf
 returns-2 c =
-    let a = c .before .before .before .before .before .args in
-    let across : (eqb (a .i) 0 || eqb (a .i + 1) (a .p)) ≡ true = sym (c .before .before .before .before .is-outer .ensures) ∙ not-false (c .before .before .before .before .is-outer .result) (c .before .before .before .if1 .left) in
-    let down : (eqb (a .j) 0 || eqb (a .j + 1) (a .q)) ≡ false = sym (c .before .before .is-outer2 .ensures) ∙ not-true (c .before .before .is-outer2 .result) (c .before .if2 .taken) in
+    let at-if2 = c .before in
+    let is-outer2 = at-if2 .before .is-outer2 in
+    let at-if1 = at-if2 .before .before in
+    let is-outer = at-if1 .before .is-outer in
+    let a = at-if1 .before .before .args in
+    let across : (eqb (a .i) 0 || eqb (a .i + 1) (a .p)) ≡ true =
+    sym (is-outer .ensures) ∙ not-false (is-outer .result) (at-if1 .if1 .left) in
+    let down : (eqb (a .j) 0 || eqb (a .j + 1) (a .q)) ≡ false =
+    sym (is-outer2 .ensures) ∙ not-true (is-outer2 .result) (at-if2 .if2 .taken) in
     rw (across, down) (c .inner-alignment2 .ensures)
 
 finder-at-requires : tie.Need-finder-at-requires
@@ -42,9 +50,15 @@ finder-at-requires c κs = search needs
 returns-3 : tie.Need-returns-3
 unfolding patternOf
 returns-3 c =
-    let a = c .before .before .before .before .before .before .args in
-    let across : (eqb (a .i) 0 || eqb (a .i + 1) (a .p)) ≡ true = sym (c .before .before .before .before .before .is-outer .ensures) ∙ not-false (c .before .before .before .before .before .is-outer .result) (c .before .before .before .before .if1 .left) in
-    let down : (eqb (a .j) 0 || eqb (a .j + 1) (a .q)) ≡ true = sym (c .before .before .before .is-outer2 .ensures) ∙ not-false (c .before .before .before .is-outer2 .result) (c .before .before .if2 .left) in
+    let at-if2 = c .before .before in
+    let is-outer2 = at-if2 .before .is-outer2 in
+    let at-if1 = at-if2 .before .before in
+    let is-outer = at-if1 .before .is-outer in
+    let a = at-if1 .before .before .args in
+    let across : (eqb (a .i) 0 || eqb (a .i + 1) (a .p)) ≡ true =
+    sym (is-outer .ensures) ∙ not-false (is-outer .result) (at-if1 .if1 .left) in
+    let down : (eqb (a .j) 0 || eqb (a .j + 1) (a .q)) ≡ true =
+    sym (is-outer2 .ensures) ∙ not-false (is-outer2 .result) (at-if2 .if2 .left) in
     rw (across, down, eq-eqb (a .kind) 0 (c .before .if3 .taken)) (c .finder-at .ensures)
 
 corner-alignment-requires : tie.Need-corner-alignment-requires
@@ -53,9 +67,15 @@ corner-alignment-requires c κs = search needs
 returns-4 : tie.Need-returns-4
 unfolding patternOf
 returns-4 c =
-    let a = c .before .before .before .before .before .before .args in
-    let across : (eqb (a .i) 0 || eqb (a .i + 1) (a .p)) ≡ true = sym (c .before .before .before .before .before .is-outer .ensures) ∙ not-false (c .before .before .before .before .before .is-outer .result) (c .before .before .before .before .if1 .left) in
-    let down : (eqb (a .j) 0 || eqb (a .j + 1) (a .q)) ≡ true = sym (c .before .before .before .is-outer2 .ensures) ∙ not-false (c .before .before .before .is-outer2 .result) (c .before .before .if2 .left) in
+    let at-if2 = c .before .before in
+    let is-outer2 = at-if2 .before .is-outer2 in
+    let at-if1 = at-if2 .before .before in
+    let is-outer = at-if1 .before .is-outer in
+    let a = at-if1 .before .before .args in
+    let across : (eqb (a .i) 0 || eqb (a .i + 1) (a .p)) ≡ true =
+    sym (is-outer .ensures) ∙ not-false (is-outer .result) (at-if1 .if1 .left) in
+    let down : (eqb (a .j) 0 || eqb (a .j + 1) (a .q)) ≡ true =
+    sym (is-outer2 .ensures) ∙ not-false (is-outer2 .result) (at-if2 .if2 .left) in
     rw (across, down, ne-eqb (a .kind) 0 (c .before .if3 .left)) (c .corner-alignment .ensures)
 
 pub pattern-of-spec : {M : Type 1} → statement M
