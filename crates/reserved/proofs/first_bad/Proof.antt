@@ -1,4 +1,5 @@
--- `reserved::first_bad` meets its contract: what is left of the search is that from entry k on. Assumes nothing.
+-- `reserved::first_bad` meets its contract. The invariant: the search among all n entries is that among those from entry k on. What falls:
+-- the entries not looked at yet. Assumes nothing.
 use Prim.Native.Nat.{_-_}
 use mathlib.Core.Path.{_∙_, sym}
 use native.Mathlib.Omega.{arith}
@@ -18,15 +19,20 @@ side-cores-requires : tie.Need-side-cores-requires Inv-loop μ-loop
 side-cores-requires c κs = search needs
 
 loop-holds : tie.Need-loop-holds Inv-loop μ-loop
-loop-holds c = search-start (badAt (c .before .before .args .p) (c .before .before .args .list .now)) (c .before .before .args .n)
+loop-holds c =
+    let a = c .before .before .args in
+    search-start (badAt (a .p) (a .list .now)) (a .n)
 
 is-bad-requires : tie.Need-is-bad-requires Inv-loop μ-loop
 is-bad-requires c κs = (c .before .before .side-cores .ensures, omega arith)
 
 returns : tie.Need-returns Inv-loop μ-loop
 returns c =
-    let a = c .before .before .before .before .before .before .args in
-    sym (search-found (badAt (a .p) (a .list .now)) (a .n) (c .before .before .before .loop .k) (c .before .before .before .loop .inv) (c .before .before .loop-test .taken) (sym (c .before .is-bad .ensures) ∙ c .if1 .taken))
+    let at-loop = c .before .before .before in
+    let a = at-loop .before .before .before .args in
+    let inside = c .before .before .loop-test .taken in
+    let bad = sym (c .before .is-bad .ensures) ∙ c .if1 .taken in
+    sym (search-found (badAt (a .p) (a .list .now)) (a .n) (at-loop .loop .k) (at-loop .loop .inv) inside bad)
 
 add-k : tie.Need-add-k Inv-loop μ-loop
 add-k c = omega arith
@@ -36,8 +42,11 @@ loop-less c = omega arith
 
 loop-again : tie.Need-loop-again Inv-loop μ-loop
 loop-again c =
-    let a = c .before .before .before .before .before .before .args in
-    search-next (badAt (a .p) (a .list .now)) (a .n) (c .before .before .before .loop .k) (c .before .before .before .loop .inv) (c .before .before .loop-test .taken) (sym (c .before .is-bad .ensures) ∙ c .if1 .left)
+    let at-loop = c .before .before .before in
+    let a = at-loop .before .before .before .args in
+    let inside = c .before .before .loop-test .taken in
+    let good = sym (c .before .is-bad .ensures) ∙ c .if1 .left in
+    search-next (badAt (a .p) (a .list .now)) (a .n) (at-loop .loop .k) (at-loop .loop .inv) inside good
 
 returns-2 : tie.Need-returns-2 Inv-loop μ-loop
 returns-2 c =

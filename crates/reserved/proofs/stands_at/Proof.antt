@@ -24,7 +24,8 @@ returns-2 : tie.Need-returns-2
 unfolding entryAt
 returns-2 c =
     let a = c .before .before .before .before .args in
-    rw (eq-eqb (entryColumn (a .list .now) (a .k)) (a .x) (sym (c .before .before .column-of .ensures .0) ∙ c .before .if1 .left)) (ap (λ (n : ℕ). eqb n (a .y)) (c .row-of .ensures .0))
+    let column = sym (c .before .before .column-of .ensures .0) ∙ c .before .if1 .left in
+    rw (eq-eqb (entryColumn (a .list .now) (a .k)) (a .x) column) (ap (λ (n : ℕ). eqb n (a .y)) (c .row-of .ensures .0))
 
 pub stands-at-spec : {M : Type 1} → statement M
 stands-at-spec = tie.close (tie.spec column-of-requires returns row-of-requires returns-2)
