@@ -9,7 +9,8 @@ use Rattle.symbology.specs.declared.Modules.{Modules}
 use Rattle.symbology.specs.declared.Bits.{Bits}
 use Rattle.symbology.specs.declared.Sizes.{Sizes}
 use Rattle.symbology.specs.Sides.{sideSize, innerPatterns, columns, rows}
-use Rattle.symbology.specs.Capacity.{bitsPerModule, patternModules, dataModules, asBits, capacity, blockRows, grossBits, checkCount, netBits, workBytes, sizesOf}
+use Rattle.symbology.specs.Capacity.{bitsPerModule, patternModules, dataModules, asBits, capacity}
+use Rattle.symbology.specs.Capacity.{blockRows, grossBits, checkCount, netBits, workBytes, sizesOf}
 
 -- D, from the modules across and down and those of patterns
 pub modules-are : (kind h v listed across down inner corner n : ℕ)

@@ -1,4 +1,5 @@
--- `capacity::bits_per_module` meets its contract: the search for the bits goes on from `depth`. Assumes nothing.
+-- `capacity::bits_per_module` meets its contract. The invariant: the search for the bits goes on from `depth`, and `told` is 2 to the power
+-- of `depth`. What falls: how far `depth` is below 8. Assumes nothing.
 use Prim.Native.Nat.{_-_}
 use native.Mathlib.Omega.{arith}
 use Rattle.capacity.proofs.Depth.{Depth, depth-start, told-small, depth-next, depth-found, depth-none}

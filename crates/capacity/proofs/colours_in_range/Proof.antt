@@ -34,33 +34,43 @@ returns-3 c =
 returns-4 : tie.Need-returns-4
 unfolding rangeTests
 returns-4 c =
-    let p = c .before .before .before .before .before .before .before .before .args .p in
+    let at-if2 = c .before .before .before .before in
+    let p = at-if2 .before .before .before .before .args .p in
     one-fails (colourTests p) 3 (le-ltb (p .yellow) (p .colours) (c .if4 .taken))
 
 returns-5 : tie.Need-returns-5
 unfolding rangeTests
 returns-5 c =
-    let p = c .before .before .before .before .before .before .before .before .before .before .args .p in
+    let at-if3 = c .before .before .before .before in
+    let p = at-if3 .before .before .before .before .before .before .args .p in
     one-fails (colourTests p) 4 (ap not (eq-eqb (p .black) (p .cyan) (c .if5 .taken)))
 
 returns-6 : tie.Need-returns-6
 unfolding rangeTests
 returns-6 c =
-    let p = c .before .before .before .before .before .before .before .before .before .before .before .before .args .p in
+    let at-if3 = c .before .before .before .before .before .before in
+    let p = at-if3 .before .before .before .before .before .before .args .p in
     one-fails (colourTests p) 5 (ap not (eq-eqb (p .black) (p .yellow) (c .if6 .taken)))
 
 returns-7 : tie.Need-returns-7
 unfolding rangeTests allHold
 returns-7 c =
-    let p = c .before .before .before .before .before .before .before .before .before .before .before .before .before .args .p in
-    let colours-in : (eqb (p .colours) 4 || eqb (p .colours) 8) ≡ true = passed (c .before .before .before .before .before .before .before .before .before .before .before .before .is-four-or-eight .ensures) (c .before .before .before .before .before .before .before .before .before .before .before .if1 .left) in
+    let at-if6 = c .before in
+    let at-if5 = at-if6 .before .before in
+    let at-if4 = at-if5 .before .before in
+    let at-if3 = at-if4 .before .before in
+    let at-if2 = at-if3 .before .before in
+    let at-if1 = at-if2 .before .before in
+    let p = at-if1 .before .before .args .p in
+    let colours-in : (eqb (p .colours) 4 || eqb (p .colours) 8) ≡ true =
+    passed (at-if1 .before .is-four-or-eight .ensures) (at-if1 .if1 .left) in
     rw (
       colours-in,
-      lt-ltb (p .black) (p .colours) (c .before .before .before .before .before .before .before .before .before .if2 .left),
-      lt-ltb (p .cyan) (p .colours) (c .before .before .before .before .before .before .before .if3 .left),
-      lt-ltb (p .yellow) (p .colours) (c .before .before .before .before .before .if4 .left),
-      ne-eqb (p .black) (p .cyan) (c .before .before .before .if5 .left),
-      ne-eqb (p .black) (p .yellow) (c .before .if6 .left),
+      lt-ltb (p .black) (p .colours) (at-if2 .if2 .left),
+      lt-ltb (p .cyan) (p .colours) (at-if3 .if3 .left),
+      lt-ltb (p .yellow) (p .colours) (at-if4 .if4 .left),
+      ne-eqb (p .black) (p .cyan) (at-if5 .if5 .left),
+      ne-eqb (p .black) (p .yellow) (at-if6 .if6 .left),
       and-true,
     )
 

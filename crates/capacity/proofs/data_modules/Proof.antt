@@ -38,7 +38,10 @@ mul-all : tie.Need-mul-all
 mul-all c = omega (arith, all-most c)
 
 inner-patterns-requires : tie.Need-inner-patterns-requires
-inner-patterns-requires c κs = omega (arith, known (c .before .before .before .before), c .before .before .before .wide .ensures, c .before .before .wide2 .ensures)
+inner-patterns-requires c κs =
+    let wide = c .before .before .before .wide in
+    let wide2 = c .before .before .wide2 in
+    omega (arith, known (c .before .before .before .before), wide .ensures, wide2 .ensures)
 
 mul-saturating-sub : tie.Need-mul-saturating-sub
 mul-saturating-sub c = search needs
@@ -60,11 +63,13 @@ cast-t11 c = omega (arith, all-most (c .before .before .before .before))
 
 returns : tie.Need-returns
 returns c =
-    let args = c .before .before .before .before .before .before .before .before .args in
-    let h-is = c .before .before .before .before .before .before .before .wide .ensures in
-    let v-is = c .before .before .before .before .before .before .wide2 .ensures in
-    let across = c .before .before .before .before .before .side-size in
-    let down = c .before .before .before .before .side-size2 in
+    let sizes = c .before .before .before .before in
+    let start = sizes .before .before .before .before in
+    let args = start .args in
+    let h-is = sizes .before .before .before .wide .ensures in
+    let v-is = sizes .before .before .wide2 .ensures in
+    let across = sizes .before .side-size in
+    let down = sizes .side-size2 in
     let inner = c .before .before .before .inner-patterns in
     let corner = c .before .before .corner-modules in (
       modules-are (args .p .kind) (args .p .horizontal) (args .p .vertical) (args .listed)
@@ -74,7 +79,7 @@ returns c =
           (inner .ensures .0 ∙ ap₂ innerPatterns h-is v-is)
           (corner .ensures .0)
           (c .saturating-sub2 .ensures ∙ ap (λ (n : ℕ). n - args .listed) (c .before .saturating-sub .ensures)),
-      omega (arith, all-most (c .before .before .before .before)),
+      omega (arith, all-most sizes),
     )
 
 pub data-modules-spec : {M : Type 1} → statement M

@@ -21,7 +21,9 @@ is-within-requires-2 c κs = search needs
 
 returns-2 : tie.Need-returns-2
 unfolding rangeTests
-returns-2 c = one-fails (sideTests (c .before .before .before .before .args .p)) 1 (refused (c .before .is-within2 .ensures) (c .if2 .taken))
+returns-2 c =
+    let p = c .before .before .before .before .args .p in
+    one-fails (sideTests p) 1 (refused (c .before .is-within2 .ensures) (c .if2 .taken))
 
 is-within-requires-3 : tie.Need-is-within-requires-3
 is-within-requires-3 c κs = search needs
@@ -29,9 +31,11 @@ is-within-requires-3 c κs = search needs
 returns-3 : tie.Need-returns-3
 unfolding rangeTests allHold
 returns-3 c =
-    let p = c .before .before .before .before .before .args .p in
-    let kind-in : within 0 1 (p .kind) ≡ true = passed (c .before .before .before .before .is-within .ensures) (c .before .before .before .if1 .left) in
-    let horizontal-in : within 1 32 (p .horizontal) ≡ true = passed (c .before .before .is-within2 .ensures) (c .before .if2 .left) in
+    let at-if2 = c .before in
+    let at-if1 = at-if2 .before .before in
+    let p = at-if1 .before .before .args .p in
+    let kind-in : within 0 1 (p .kind) ≡ true = passed (at-if1 .before .is-within .ensures) (at-if1 .if1 .left) in
+    let horizontal-in : within 1 32 (p .horizontal) ≡ true = passed (at-if2 .before .is-within2 .ensures) (at-if2 .if2 .left) in
     rw (kind-in, horizontal-in, and-true) (c .is-within3 .ensures)
 
 pub sides-in-range-spec : {M : Type 1} → statement M

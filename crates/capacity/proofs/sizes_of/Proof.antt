@@ -96,11 +96,12 @@ add-t21 c = omega (arith, products (c .before .before .before) .matrix, c-most (
 
 returns : tie.Need-returns
 returns c =
-    let a = c .before .before .before .before .before .before .before .before .before .args in
-    let d = c .before .before .before .before .before .before .before .before .bits-per-module in
-    let m = c .before .before .before .before .before .before .before .data-modules in
-    let b = c .before .before .before .before .before .before .as-bits in
-    let n = c .before .before .before .before .before .wide in
+    let with-c = c .before .before .before .before .before in
+    let n = with-c .wide in
+    let b = with-c .before .as-bits in
+    let m = with-c .before .before .data-modules in
+    let d = with-c .before .before .before .bits-per-module in
+    let a = with-c .before .before .before .before .args in
     let wr = c .before .before .before .before .wide2 in
     let wc = c .before .before .before .wide3 in
     let across = c .before .before .side-size in
