@@ -26,7 +26,8 @@ use Rattle.layout.specs.Walk.{SampledTo}
 take-sets : (o xs : List ℕ) (at : ℕ) → at + length xs ≤ length o → take (at + length xs) (sets o at xs) ≡ take at o ++ xs
 take-sets o xs at h =
     let front : List ℕ = take at o ++ xs in
-    let long : length front ≡ at + length xs = length-append (take at o) xs ∙ ap (λ (n : ℕ). n + length xs) (length-take-le at o (omega arith)) in
+    let long : length front ≡ at + length xs =
+    length-append (take at o) xs ∙ ap (λ (n : ℕ). n + length xs) (length-take-le at o (omega arith)) in
     ap (take (at + length xs)) (sets-eq xs o at h) ∙ take-at front (drop (at + length xs) o) (at + length xs) long
 
 -- before the first module nothing is asked for
@@ -52,7 +53,8 @@ module _ {p : Params} {l matrix out : List ℕ} where
       let place : depth * k ≡ length before = ap (λ (n : ℕ). depth * n) e ∙ sym (length-taken p l matrix c r) in
       let long : length before + length here ≡ depth * rank p l c (r + 1)
       = sym (length-append before here) ∙ ap length (sym more) ∙ length-taken p l matrix c (r + 1) in
-      let most : depth * rank p l c (r + 1) ≤ depth * dataTotal p l = mul-le-mul-left depth (rank-most p l c (r + 1) inside (omega arith)) in
+      let most : depth * rank p l c (r + 1) ≤ depth * dataTotal p l =
+      mul-le-mul-left depth (rank-most p l c (r + 1) inside (omega arith)) in
       let fits : length before + length here ≤ length out = omega (arith, long, most, data-bits p l range sound, s .whole) in
       record {
         whole = length-sets out (depth * k) here ∙ s .whole;

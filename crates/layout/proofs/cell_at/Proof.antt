@@ -23,14 +23,19 @@ colour-of-requires c κs = search needs
 
 narrow-requires : tie.Need-narrow-requires
 narrow-requires c κs =
-    let a = c .before .before .before .before .args in
-    omega (arith, c .colour-of .ensures .0, entry-byte (a .p) (a .list .now) (c .before .before .before .before .pre .0) (c .before .before .before .before .pre .1) (c .before .before .first-entry .result) (c .before .if1 .taken))
+    let first-entry = c .before .before .first-entry in
+    let entry = c .before .before .before .before in
+    let a = entry .args in
+    let byte = entry-byte (a .p) (a .list .now) (entry .pre .0) (entry .pre .1) (first-entry .result) (c .before .if1 .taken) in
+    omega (arith, c .colour-of .ensures .0, byte)
 
 returns : tie.Need-returns
 returns c =
-    let a = c .before .before .before .before .before .args in
+    let at-if1 = c .before .before in
+    let k = at-if1 .before .first-entry in
+    let a = at-if1 .before .before .before .args in
     ap Fixed (c .narrow .ensures ∙ c .before .colour-of .ensures .0)
-    ∙ sym (listed-cell (a .p) (a .list .now) (a .c + 1) (a .r + 1) (c .before .before .before .first-entry .result) (c .before .before .before .first-entry .ensures .0) (c .before .before .if1 .taken))
+    ∙ sym (listed-cell (a .p) (a .list .now) (a .c + 1) (a .r + 1) (k .result) (k .ensures .0) (at-if1 .if1 .taken))
 
 add-pattern-colour : tie.Need-add-pattern-colour
 add-pattern-colour c = search needs
@@ -46,10 +51,12 @@ pattern-cell-requires c κs = search needs
 
 returns-2 : tie.Need-returns-2
 returns-2 c =
-    let a = c .before .before .before .before .before .args in
+    let at-if1 = c .before .before in
+    let k = at-if1 .before .first-entry in
+    let a = at-if1 .before .before .before .args in
     c .pattern-cell .ensures
     ∙ ap (patternCell (a .p)) (c .before .pattern-colour .ensures)
-    ∙ sym (unlisted-cell (a .p) (a .list .now) (a .c + 1) (a .r + 1) (c .before .before .before .first-entry .result) (c .before .before .before .first-entry .ensures .0) (c .before .before .if1 .left))
+    ∙ sym (unlisted-cell (a .p) (a .list .now) (a .c + 1) (a .r + 1) (k .result) (k .ensures .0) (at-if1 .if1 .left))
 
 pub cell-at-spec : {M : Type 1} → statement M
 cell-at-spec =

@@ -1,4 +1,5 @@
--- `layout::fill` meets its contract: the invariant is how many columns are filled. Assumes nothing.
+-- `layout::fill` meets its contract. The invariant: the modules of the columns before c are filled, and k is the number of data modules
+-- among them. What falls: the columns not filled yet. Assumes nothing.
 use Prim.Native.Nat.{_-_, _≤_, _<_}
 use mathlib.Core.Path.{_≡_, _∙_, sym, refl}
 use native.Mathlib.Omega.{arith}
@@ -26,14 +27,21 @@ columns-of-requires c κs = c .before .before .before .before .pre .in-range
 
 loop-holds : tie.Need-loop-holds Inv-loop μ-loop
 loop-holds c =
-    let a = c .before .before .before .before .before .args in
-    (omega arith, sym (rank-first (a .p) (a .list .now)), filled-start (a .p) (a .list .now) (a .bits .now) (a .matrix .now) (c .before .before .before .before .before .pre .all-modules))
+    let start = c .before .before .before .before .before in
+    let a = start .args in
+    let none = filled-start (a .p) (a .list .now) (a .bits .now) (a .matrix .now) (start .pre .all-modules) in
+    (omega arith, sym (rank-first (a .p) (a .list .now)), none)
 
 fill-column-requires : tie.Need-fill-column-requires Inv-loop μ-loop
 fill-column-requires c κs =
-    let i = c .before .before .loop .inv in
-    let h : c .before .before .loop .c < columns (c .before .before .before .before .before .before .before .before .args .p) = omega (arith, c .before .before .before .columns-of .ensures .0) in
-    (at-column (c .before .before .before .before .before .before .before .before .pre) (c .before .before .before .before .side-cores .result) _ _ (c .before .before .loop .c) (c .before .before .loop .k) (c .before .before .before .before .side-cores .ensures) refl (i .2 .whole ∙ sym (c .before .before .before .before .before .before .before .before .pre .all-modules)) h (i .1), i .2)
+    let at-loop = c .before .before in
+    let start = at-loop .before .before .before .before .before .before in
+    let cores = at-loop .before .before .side-cores in
+    let loop = at-loop .loop in
+    let i = loop .inv in
+    let inside : loop .c < columns (start .args .p) = omega (arith, at-loop .before .columns-of .ensures .0) in
+    let whole = i .2 .whole ∙ sym (start .pre .all-modules) in
+    (at-column (start .pre) (cores .result) _ _ (loop .c) (loop .k) (cores .ensures) refl whole inside (i .1), i .2)
 
 add-c : tie.Need-add-c Inv-loop μ-loop
 add-c c = omega arith
@@ -42,16 +50,21 @@ loop-less : tie.Need-loop-less Inv-loop μ-loop
 loop-less c = omega arith
 
 loop-again : tie.Need-loop-again Inv-loop μ-loop
-loop-again c = (omega (arith, c .before .before .before .before .before .before .columns-of .ensures .0), c .before .before .fill-column .ensures .0, c .before .before .fill-column .ensures .1)
+loop-again c =
+    let columns-of = c .before .before .before .before .before .before .columns-of in
+    let fill-column = c .before .before .fill-column in
+    (omega (arith, columns-of .ensures .0), fill-column .ensures .0, fill-column .ensures .1)
 
 same-length : tie.Need-same-length Inv-loop μ-loop
 same-length c = c .before .loop .inv .2 .whole ∙ sym (c .before .before .before .before .before .before .before .pre .all-modules)
 
 returns : tie.Need-returns Inv-loop μ-loop
 returns c =
-    let i = c .before .loop .inv in
-    let e : c .before .loop .c ≡ columns (c .before .before .before .before .before .before .before .args .p) = omega (arith, i .0, c .before .before .columns-of .ensures .0) in
-    filled-all (rw e at (i .2))
+    let at-loop = c .before in
+    let start = at-loop .before .before .before .before .before .before in
+    let i = at-loop .loop .inv in
+    let all : at-loop .loop .c ≡ columns (start .args .p) = omega (arith, i .0, at-loop .before .columns-of .ensures .0) in
+    filled-all (rw all at (i .2))
 
 pub fill-spec : {M : Type 1} → statement M
 fill-spec =

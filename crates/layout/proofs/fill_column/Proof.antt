@@ -1,4 +1,5 @@
--- `layout::fill_column` meets its contract: the invariant is how far down the column the walk has come. Assumes nothing.
+-- `layout::fill_column` meets its contract. The invariant: the modules before row r of column c are filled, and `next` is the number of
+-- data modules among them. What falls: the rows below, not filled yet. Assumes nothing.
 use Prim.Native.Nat.{_-_, _≤_, _<_}
 use mathlib.Core.Path.{_≡_, _∙_, sym, refl}
 use native.Mathlib.Numerals.{add-one}
@@ -13,7 +14,10 @@ use Rattle.layout.proofs.fill_column.Statement.{statement}
 use Rattle.layout.proofs.fill_column.Tie as tie
 
 abbrev Inv-loop : tie.InvT-loop
-Inv-loop p list cores bits matrix₀ c k height next₀ r₀ matrix next r = (r ≤ rows p) × (next ≡ rank p list c r) × FilledTo p list bits matrix c r
+Inv-loop p list cores bits matrix₀ c k height next₀ r₀ matrix next r =
+    (r ≤ rows p)
+    × (next ≡ rank p list c r)
+    × FilledTo p list bits matrix c r
 
 abbrev μ-loop : tie.MeasureT-loop
 μ-loop p list cores bits matrix₀ c k height next₀ r₀ matrix next r = height - r
@@ -26,9 +30,13 @@ loop-holds c = (omega arith, c .before .before .before .before .pre .0 .ranked, 
 
 fill-module-requires : tie.Need-fill-module-requires Inv-loop μ-loop
 fill-module-requires c κs =
-    let i = c .before .before .loop .inv in
-    let h : c .before .before .loop .r < rows (c .before .before .before .before .before .before .before .args .p) = omega (arith, c .before .before .before .rows-of .ensures .0) in
-    (moved (c .before .before .before .before .before .before .before .pre .0) _ _ (c .before .before .loop .r) (c .before .before .loop .next) refl (i .2 .whole ∙ sym (c .before .before .before .before .before .before .before .pre .1 .whole)) (i .0) (i .1), h)
+    let at-loop = c .before .before in
+    let start = at-loop .before .before .before .before .before in
+    let loop = at-loop .loop in
+    let i = loop .inv in
+    let inside : loop .r < rows (start .args .p) = omega (arith, at-loop .before .rows-of .ensures .0) in
+    let whole = i .2 .whole ∙ sym (start .pre .1 .whole) in
+    (moved (start .pre .0) _ _ (loop .r) (loop .next) refl whole (i .0) (i .1), inside)
 
 add-r : tie.Need-add-r Inv-loop μ-loop
 add-r c = omega arith
@@ -38,9 +46,13 @@ loop-less c = omega arith
 
 loop-again : tie.Need-loop-again Inv-loop μ-loop
 loop-again c =
-    let i = c .before .before .before .before .before .loop .inv in
-    let h : c .before .before .before .before .before .loop .r < rows (c .before .before .before .before .before .before .before .before .before .before .args .p) = omega (arith, c .before .before .before .before .before .before .rows-of .ensures .0) in
-    (omega arith, c .before .before .fill-module .ensures .0, rw (c .before .before .fill-module .ensures .1) (filled-next (i .2) (c .before .before .before .before .before .before .before .before .before .before .pre .0 .column) h))
+    let at-loop = c .before .before .before .before .before in
+    let start = at-loop .before .before .before .before .before in
+    let fill-module = c .before .before .fill-module in
+    let loop = at-loop .loop in
+    let inside : loop .r < rows (start .args .p) = omega (arith, at-loop .before .rows-of .ensures .0) in
+    let filled = filled-next (loop .inv .2) (start .pre .0 .column) inside in
+    (omega arith, fill-module .ensures .0, rw (fill-module .ensures .1) filled)
 
 same-length : tie.Need-same-length Inv-loop μ-loop
 same-length c = c .before .loop .inv .2 .whole ∙ sym (c .before .before .before .before .before .before .pre .1 .whole)

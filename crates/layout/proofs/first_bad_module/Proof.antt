@@ -1,4 +1,5 @@
--- `layout::first_bad_module` meets its contract: what is left of the search is that from module i on. Assumes nothing.
+-- `layout::first_bad_module` meets its contract. The invariant: the search among all modules is that among those from module i on. What
+-- falls: the modules not looked at yet. Assumes nothing.
 use Prim.Native.Nat.{ℕ, _-_, _≤_, _<_}
 use mathlib.Core.Path.{sym}
 use native.Mathlib.Omega.{arith}
@@ -21,7 +22,9 @@ wide-requires : tie.Need-wide-requires Inv-loop μ-loop
 wide-requires c κs = search needs
 
 loop-holds : tie.Need-loop-holds Inv-loop μ-loop
-loop-holds c = search-start (λ k. leb (c .before .before .args .colours) (getD (c .before .before .args .matrix .now) k 0)) (length (c .before .before .args .matrix .now))
+loop-holds c =
+    let a = c .before .before .args in
+    search-start (λ k. leb (a .colours) (getD (a .matrix .now) k 0)) (length (a .matrix .now))
 
 shared-slice-read-if1 : tie.Need-shared-slice-read-if1 Inv-loop μ-loop
 shared-slice-read-if1 c = search needs
@@ -32,11 +35,13 @@ cast-if1 c = omega (arith, c .shared-slice-known2 .given (c .before .before .loo
 returns : tie.Need-returns Inv-loop μ-loop
 unfolding firstBadModule
 returns c =
-    let a = c .before .before .before .before .before .before .args in
+    let at-loop = c .before .before .before in
+    let a = at-loop .before .before .before .args in
     let m = a .matrix .now in
-    let i : ℕ = c .before .before .before .loop .i in
-    let bad : a .colours ≤ getD m i 0 = omega (arith, c .before .before .before .before .wide .ensures) in
-    sym (search-found (λ k. leb (a .colours) (getD m k 0)) (length m) i (c .before .before .before .loop .inv) (c .before .before .loop-test .taken) (le-leb (a .colours) (getD m i 0) bad))
+    let i : ℕ = at-loop .loop .i in
+    let bad : a .colours ≤ getD m i 0 = omega (arith, at-loop .before .wide .ensures) in
+    let inside = c .before .before .loop-test .taken in
+    sym (search-found (λ k. leb (a .colours) (getD m k 0)) (length m) i (at-loop .loop .inv) inside (le-leb (a .colours) (getD m i 0) bad))
 
 add-i : tie.Need-add-i Inv-loop μ-loop
 add-i c = search needs
@@ -46,11 +51,13 @@ loop-less c = search needs
 
 loop-again : tie.Need-loop-again Inv-loop μ-loop
 loop-again c =
-    let a = c .before .before .before .before .before .before .args in
+    let at-loop = c .before .before .before in
+    let a = at-loop .before .before .before .args in
     let m = a .matrix .now in
-    let i : ℕ = c .before .before .before .loop .i in
-    let good : getD m i 0 < a .colours = omega (arith, c .before .before .before .before .wide .ensures) in
-    search-next (λ k. leb (a .colours) (getD m k 0)) (length m) i (c .before .before .before .loop .inv) (c .before .before .loop-test .taken) (lt-leb (a .colours) (getD m i 0) good)
+    let i : ℕ = at-loop .loop .i in
+    let good : getD m i 0 < a .colours = omega (arith, at-loop .before .wide .ensures) in
+    let inside = c .before .before .loop-test .taken in
+    search-next (λ k. leb (a .colours) (getD m k 0)) (length m) i (at-loop .loop .inv) inside (lt-leb (a .colours) (getD m i 0) good)
 
 returns-2 : tie.Need-returns-2 Inv-loop μ-loop
 unfolding firstBadModule

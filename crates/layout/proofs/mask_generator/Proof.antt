@@ -117,7 +117,9 @@ returns-9 : tie.Need-returns-9
 returns-9 c =
     let a = c .before .args in
     let no = c .match .rest in
-    let four : 4 ≤ a .mask = none-of-four (a .mask) 0 (omega arith) (no .0 .0 .0 .0 .0 .0 .0 .1) (no .0 .0 .0 .0 .0 .0 .1) (no .0 .0 .0 .0 .0 .1) (no .0 .0 .0 .0 .1) in
+    let first = no .0 .0 .0 .0 in
+    let four : 4 ≤ a .mask =
+    none-of-four (a .mask) 0 (omega arith) (first .0 .0 .0 .1) (first .0 .0 .1) (first .0 .1) (first .1) in
     sym (past-masks (a .mask) (a .x) (a .y) (none-of-four (a .mask) 4 four (no .0 .0 .0 .1) (no .0 .0 .1) (no .0 .1) (no .1)))
 
 pub mask-generator-spec : {M : Type 1} → statement M

@@ -13,19 +13,28 @@ enum-told-2 : tie.Need-enum-told-2
 enum-told-2 c = search needs
 
 cast-t4 : tie.Need-cast-t4
-cast-t4 c = omega (arith, ranges (c .before .before .before .args .p) (c .before .before .before .pre) .black-below, some-colours (c .before .before .before .args .p) (c .before .before .before .pre) .1)
+cast-t4 c =
+    let start = c .before .before .before in
+    let p = start .args .p in
+    omega (arith, ranges p (start .pre) .black-below, some-colours p (start .pre) .1)
 
 enum-told-3 : tie.Need-enum-told-3
 enum-told-3 c = search needs
 
 cast-t5 : tie.Need-cast-t5
-cast-t5 c = omega (arith, ranges (c .before .before .before .args .p) (c .before .before .before .pre) .cyan-below, some-colours (c .before .before .before .args .p) (c .before .before .before .pre) .1)
+cast-t5 c =
+    let start = c .before .before .before in
+    let p = start .args .p in
+    omega (arith, ranges p (start .pre) .cyan-below, some-colours p (start .pre) .1)
 
 enum-told-4 : tie.Need-enum-told-4
 enum-told-4 c = search needs
 
 cast-t6 : tie.Need-cast-t6
-cast-t6 c = omega (arith, ranges (c .before .before .before .args .p) (c .before .before .before .pre) .yellow-below, some-colours (c .before .before .before .args .p) (c .before .before .before .pre) .1)
+cast-t6 c =
+    let start = c .before .before .before in
+    let p = start .args .p in
+    omega (arith, ranges p (start .pre) .yellow-below, some-colours p (start .pre) .1)
 
 returns : tie.Need-returns
 unfolding patternCell

@@ -1,4 +1,5 @@
--- `layout::sample` meets its contract: the invariant is how many columns are sampled. Assumes nothing.
+-- `layout::sample` meets its contract. The invariant: the bits of the columns before c are sampled, and k is the number of data modules in
+-- them. What falls: the columns not sampled yet. Assumes nothing.
 use Prim.Native.Nat.{_-_, _≤_, _<_}
 use mathlib.Core.Path.{_≡_, _∙_, sym, refl}
 use native.Mathlib.Omega.{arith}
@@ -26,14 +27,21 @@ columns-of-requires c κs = c .before .before .before .before .pre .in-range
 
 loop-holds : tie.Need-loop-holds Inv-loop μ-loop
 loop-holds c =
-    let a = c .before .before .before .before .before .args in
-    (omega arith, sym (rank-first (a .p) (a .list .now)), sampled-start (a .p) (a .list .now) (a .matrix .now) (a .out .now) (c .before .before .before .before .before .pre .all-bits))
+    let start = c .before .before .before .before .before in
+    let a = start .args in
+    let none = sampled-start (a .p) (a .list .now) (a .matrix .now) (a .out .now) (start .pre .all-bits) in
+    (omega arith, sym (rank-first (a .p) (a .list .now)), none)
 
 sample-column-requires : tie.Need-sample-column-requires Inv-loop μ-loop
 sample-column-requires c κs =
-    let i = c .before .before .loop .inv in
-    let h : c .before .before .loop .c < columns (c .before .before .before .before .before .before .before .before .args .p) = omega (arith, c .before .before .before .columns-of .ensures .0) in
-    (at-column (c .before .before .before .before .before .before .before .before .pre) (c .before .before .before .before .side-cores .result) _ _ (c .before .before .loop .c) (c .before .before .loop .k) (c .before .before .before .before .side-cores .ensures) (i .2 .whole ∙ sym (c .before .before .before .before .before .before .before .before .pre .all-bits)) refl h (i .1), i .2)
+    let at-loop = c .before .before in
+    let start = at-loop .before .before .before .before .before .before in
+    let cores = at-loop .before .before .side-cores in
+    let loop = at-loop .loop in
+    let i = loop .inv in
+    let inside : loop .c < columns (start .args .p) = omega (arith, at-loop .before .columns-of .ensures .0) in
+    let whole = i .2 .whole ∙ sym (start .pre .all-bits) in
+    (at-column (start .pre) (cores .result) _ _ (loop .c) (loop .k) (cores .ensures) whole refl inside (i .1), i .2)
 
 add-c : tie.Need-add-c Inv-loop μ-loop
 add-c c = omega arith
@@ -42,16 +50,21 @@ loop-less : tie.Need-loop-less Inv-loop μ-loop
 loop-less c = omega arith
 
 loop-again : tie.Need-loop-again Inv-loop μ-loop
-loop-again c = (omega (arith, c .before .before .before .before .before .before .columns-of .ensures .0), c .before .before .sample-column .ensures .0, c .before .before .sample-column .ensures .1)
+loop-again c =
+    let columns-of = c .before .before .before .before .before .before .columns-of in
+    let sample-column = c .before .before .sample-column in
+    (omega (arith, columns-of .ensures .0), sample-column .ensures .0, sample-column .ensures .1)
 
 same-length : tie.Need-same-length Inv-loop μ-loop
 same-length c = c .before .loop .inv .2 .whole ∙ sym (c .before .before .before .before .before .before .before .pre .all-bits)
 
 returns : tie.Need-returns Inv-loop μ-loop
 returns c =
-    let i = c .before .loop .inv in
-    let e : c .before .loop .c ≡ columns (c .before .before .before .before .before .before .before .args .p) = omega (arith, i .0, c .before .before .columns-of .ensures .0) in
-    sampled-all (rw e at (i .2)) (c .before .before .before .before .before .before .before .pre .in-range) (c .before .before .before .before .before .before .before .pre .sound)
+    let at-loop = c .before in
+    let start = at-loop .before .before .before .before .before .before in
+    let i = at-loop .loop .inv in
+    let all : at-loop .loop .c ≡ columns (start .args .p) = omega (arith, i .0, at-loop .before .columns-of .ensures .0) in
+    sampled-all (rw all at (i .2)) (start .pre .in-range) (start .pre .sound)
 
 pub sample-spec : {M : Type 1} → statement M
 sample-spec =

@@ -1,10 +1,13 @@
 -- `layout::sample_module` meets its contract. Assumes nothing.
 use Prim.Native.Nat.{_*_}
-use mathlib.Core.Path.{_∙_, sym, ap, ap₂}
+use mathlib.Core.Path.{_≡_, _∙_, sym, ap, ap₂}
 use native.Mathlib.Omega.{arith}
 use lib.Seq.{sets}
+use Rattle.symbology.specs.declared.Cell.the-variants.{Data}
 use Rattle.symbology.specs.Capacity.{bitsPerModule}
-use Rattle.layout.proofs.Walk.{module-inside, cell-legal, mask-legal, few-before, bits-there, rank-small, fixed-next, data-next, fixed-bits, data-bits-are}
+use Rattle.symbology.specs.Placement.{cellAt}
+use Rattle.layout.proofs.Walk.{module-inside, cell-legal, mask-legal, few-before, bits-there}
+use Rattle.layout.proofs.Walk.{rank-small, fixed-next, data-next, fixed-bits, data-bits-are}
 use borrow.Author.Needs.{needs}
 use Rattle.layout.proofs.sample_module.Statement.{statement}
 use Rattle.layout.proofs.sample_module.Tie as tie
@@ -20,8 +23,9 @@ enum-told c = search needs
 
 returns : tie.Need-returns
 returns c =
-    let a = c .before .before .before .before .before .before .before .args in
-    let w = c .before .before .before .before .before .before .before .pre .0 in
+    let start = c .before .before .before .before .before .before .before in
+    let a = start .args in
+    let w = start .pre .0 in
     let e = sym (c .before .before .cell-at .ensures) ∙ c .enum-told .given .1 in
     (fixed-next w e, ap (sets (a .out .now) (bitsPerModule (a .p .colours) * a .k)) (sym (fixed-bits w (a .matrix .now) e)))
 
@@ -33,7 +37,8 @@ depth-of-requires c κs = search needs
 
 bits-before-requires : tie.Need-bits-before-requires
 bits-before-requires c κs =
-    let w = c .before .before .before .before .before .before .before .before .before .pre .0 in
+    let told = c .before .before in
+    let w = told .before .before .before .before .before .before .before .pre .0 in
     (w .symbol .in-range, few-before w)
 
 shared-slice-read-put-unmasked : tie.Need-shared-slice-read-put-unmasked
@@ -41,40 +46,49 @@ shared-slice-read-put-unmasked c = search needs
 
 mask-at-requires : tie.Need-mask-at-requires
 mask-at-requires c κs =
-    let s = c .before .before .before .before .before .before .before .before .before .before .before in
-    let m = mask-legal (s .pre .0) (s .pre .1) in
+    let told = c .before .before .before .before in
+    let start = told .before .before .before .before .before .before .before in
+    let m = mask-legal (start .pre .0) (start .pre .1) in
     (m .0, omega (arith, m .1, m .2), omega (arith, m .1, m .2))
+
+-- the module is one for data
+is-data : (c : tie.After-enum-told2)
+    → let a = c .before .before .before .before .before .before .before .args in
+    cellAt (a .p) (a .list .now) (a .c) (a .r) ≡ Data
+is-data c = sym (c .before .before .cell-at .ensures) ∙ c .enum-told2 .given .1
 
 put-unmasked-requires : tie.Need-put-unmasked-requires
 put-unmasked-requires c κs =
-    let s = c .before .before .before .before .before .before .before .before .before .before .before .before in
     let b = c .before .before .bits-before in
     let d = c .before .before .before .before .depth-of in
-    let e = sym (c .before .before .before .before .before .before .before .cell-at .ensures) ∙ c .before .before .before .before .before .enum-told2 .given .1 in
-    bits-there (s .pre .0) (b .result) (d .result) (b .ensures) (d .ensures .0) (s .pre .1) e
+    let told = c .before .before .before .before .before in
+    let start = told .before .before .before .before .before .before .before in
+    bits-there (start .pre .0) (b .result) (d .result) (b .ensures) (d .ensures .0) (start .pre .1) (is-data told)
 
 add-result : tie.Need-add-result
 add-result c =
-    let s = c .before .before .before .before .before .before .before .before .before .before .before .before .before .before .before in
-    let e = sym (c .before .before .before .before .before .before .before .before .before .before .cell-at .ensures) ∙ c .before .before .before .before .before .before .before .before .enum-told2 .given .1 in
-    omega (arith, rank-small (s .pre .0) (s .pre .1) e)
+    let put = c .before .before in
+    let told = put .before .before .before .before .before .before in
+    let start = told .before .before .before .before .before .before .before in
+    omega (arith, rank-small (start .pre .0) (start .pre .1) (is-data told))
 
 same-length : tie.Need-same-length
 same-length c = search needs
 
 returns-2 : tie.Need-returns-2
 returns-2 c =
-    let s = c .before .before .before .before .before .before .before .before .before .before .before .before .before .before .before in
-    let w = s .pre .0 in
-    let index = c .before .before .before .before .before .before .before .before .before .before .before .index-of in
-    let d = c .before .before .before .before .before .before .before .depth-of in
-    let mask = c .before .before .before .mask-at in
-    let e = sym (c .before .before .before .before .before .before .before .before .before .before .cell-at .ensures) ∙ c .before .before .before .before .before .before .before .before .enum-told2 .given .1 in
+    let put = c .before .before in
+    let mask = put .before .mask-at in
+    let b = put .before .before .before .bits-before in
+    let d = put .before .before .before .before .before .depth-of in
+    let told = put .before .before .before .before .before .before in
+    let index = told .before .before .before .index-of in
+    let start = told .before .before .before .before .before .before .before in
+    let w = start .pre .0 in
     let held =
-    data-bits-are w (s .args .matrix .now) (d .result) (index .result) (mask .result)
-    (d .ensures .0) (index .ensures .0) (mask .ensures) e in
-    let b = c .before .before .before .before .before .bits-before in
-    (data-next w e, c .before .before .put-unmasked .ensures ∙ ap₂ (sets (s .args .out .now)) (b .ensures) held)
+    data-bits-are w (start .args .matrix .now) (d .result) (index .result) (mask .result)
+    (d .ensures .0) (index .ensures .0) (mask .ensures) (is-data told) in
+    (data-next w (is-data told), put .put-unmasked .ensures ∙ ap₂ (sets (start .args .out .now)) (b .ensures) held)
 
 pub sample-module-spec : {M : Type 1} → statement M
 sample-module-spec =
