@@ -42,13 +42,15 @@ decimal-length n h =
     elim (decLt n 100) [
       | yes l ↦ omega (arith, decimal-length-two n l)
       | no g ↦
-          omega
-          (arith, ap length (decimal-three n (omega arith) h), length-append (decimal (n / 10)) ((48 + n % 10) ∷ []), decimal-length-two (n / 10) (omega arith))
+          let three = decimal-three n (omega arith) h in
+          let parts = length-append (decimal (n / 10)) ((48 + n % 10) ∷ []) in
+          omega (arith, ap length three, parts, decimal-length-two (n / 10) (omega arith))
     ]
 
 -- ---- stored digit by digit
 
-pub stored-one : (n : ℕ) {l m : List ℕ} {at next a : ℕ} → n < 10 → a ≡ 48 + n → StoredAt (a ∷ []) at l m next → StoredAt (decimal n) at l m next
+pub stored-one : (n : ℕ) {l m : List ℕ} {at next a : ℕ} → n < 10 → a ≡ 48 + n → StoredAt (a ∷ []) at l m next
+    → StoredAt (decimal n) at l m next
 stored-one n h e t = same-piece (rw (decimal-one n h, e)) t
 
 module _ (n : ℕ) {l m k : List ℕ} {at next end b : ℕ} where

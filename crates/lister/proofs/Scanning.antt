@@ -78,7 +78,9 @@ byte b =
             | no h ↦
                 let high : b ≤ 57 = omega arith in
                 let small : b - 48 ≡ 10 → ⊥ = λ e. omega arith in
-                digit (rw (le-leb 48 b low, le-leb b 57 high)) (rw (le-leb 48 b low, le-leb b 57 high) (ne-eqb (b - 48) 10 small)) (ne-eqb b 10 apart)
+                digit (rw (le-leb 48 b low, le-leb b 57 high))
+                (rw (le-leb 48 b low, le-leb b 57 high) (ne-eqb (b - 48) 10 small))
+                (ne-eqb b 10 apart)
           ]
     ]
 
@@ -110,8 +112,10 @@ digits-all [] m n e = e
 digits-all (b ∷ bs) m n e = go (byte b) (digits-all bs)
   where
     go : Byte b
-        → ((m n : ℕ) → min m 33 ≡ min n 33 → min (scanNumber (scannedAll (Digits m) bs)) 33 ≡ min (cond (restOfNumeral bs) (numeralValue n bs) 0) 33)
-        → min (scanNumber (scannedAll (scanned (Digits m) b) bs)) 33 ≡ min (cond (restOfNumeral (b ∷ bs)) (numeralValue n (b ∷ bs)) 0) 33
+        → ((m n : ℕ) → min m 33 ≡ min n 33
+        → min (scanNumber (scannedAll (Digits m) bs)) 33 ≡ min (cond (restOfNumeral bs) (numeralValue n bs) 0) 33)
+        → min (scanNumber (scannedAll (scanned (Digits m) b) bs)) 33
+        ≡ min (cond (restOfNumeral (b ∷ bs)) (numeralValue n (b ∷ bs)) 0) 33
     go (digit d x y) ih = rw (y, x, d) (ih (grown m (b - 48)) (10 * n + (b - 48)) (grown-same m n (b - 48) e))
     go (newline d y) ih = rw (y, d, ended-all m bs) (at-end bs)
       where
@@ -126,7 +130,8 @@ unfolding scannedAll scanned numberIn isNumeral numeralValue
 scan-number [] = refl
 scan-number (b ∷ bs) = go (byte b)
   where
-    go : Byte b → min (scanNumber (scannedAll (scanned Start b) bs)) 33 ≡ min (cond (isNumeral (b ∷ bs)) (numeralValue 0 (b ∷ bs)) 0) 33
+    go : Byte b
+        → min (scanNumber (scannedAll (scanned Start b) bs)) 33 ≡ min (cond (isNumeral (b ∷ bs)) (numeralValue 0 (b ∷ bs)) 0) 33
     go (digit d x y) = rw (x, d) (digits-all bs (b - 48) (0 + (b - 48)) (omega arith))
     go (newline d y) = rw (d, broken-all bs)
     go (other d x y) = rw (d, broken-all bs)

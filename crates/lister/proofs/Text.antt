@@ -27,7 +27,8 @@ pub cores-next : (cs : List ℕ) {whole out₀ out out₁ out₂ : List ℕ} {at
     → Left whole (coresAfter (drop (i + 1) cs)) at₀ out₀ at₂ out₂
 unfolding coresAfter
 cores-next cs i core h e t p q =
-    let piece : coresAfter (drop i cs) ≡ ((32 ∷ []) ++ decimal core) ++ coresAfter (drop (i + 1) cs) = rw (add-one i, drop-cons cs i 0 h, e) in
+    let piece : coresAfter (drop i cs) ≡ ((32 ∷ []) ++ decimal core) ++ coresAfter (drop (i + 1) cs) =
+    rw (add-one i, drop-cons cs i 0 h, e) in
     left-next piece t (joined p q)
 
 -- what the public contracts say of a text: its length and the buffer

@@ -9,13 +9,17 @@ returns : tie.Need-returns
 returns c = (simp (lt-leb 48 (c .before .args .b) (c .if1 .taken)), omega arith)
 
 returns-2 : tie.Need-returns-2
-returns-2 c = (simp (le-leb 48 (c .before .before .args .b) (c .before .if1 .left), lt-leb (c .before .before .args .b) 57 (c .if2 .taken)), omega arith)
+returns-2 c =
+    let b = c .before .before .args .b in
+    (simp (le-leb 48 b (c .before .if1 .left), lt-leb b 57 (c .if2 .taken)), omega arith)
 
 cast-result : tie.Need-cast-result
 cast-result c = search needs
 
 returns-3 : tie.Need-returns-3
-returns-3 c = (simp (le-leb 48 (c .before .before .args .b) (c .before .if1 .left), le-leb (c .before .before .args .b) 57 (c .if2 .left)), omega arith)
+returns-3 c =
+    let b = c .before .before .args .b in
+    (simp (le-leb 48 b (c .before .if1 .left), le-leb b 57 (c .if2 .left)), omega arith)
 
 pub digit-of-spec : {M : Type 1} → statement M
 digit-of-spec = tie.close (tie.spec returns returns-2 cast-result returns-3)

@@ -24,9 +24,11 @@ same-length c = search needs
 
 returns : tie.Need-returns
 returns c =
-    let s = c .before .before .before .before .before .before .before .before in
     let t = c .before .before .side-text in
-    let number = c .before .before .before .before .number-of .ensures ∙ ap scanNumber (c .before .before .before .before .before .scan .ensures) in
+    let number-of = c .before .before .before .before .number-of in
+    let scan = c .before .before .before .before .before in
+    let s = scan .before .before .before in
+    let number = number-of .ensures ∙ ap scanNumber (scan .scan .ensures) in
     let same = ap sideText number ∙ scan-listing (s .args .input .now) in
     subst (λ (text : List ℕ). Stored text (s .args .out .now) (t .last .1 .0) (t .result)) same (t .ensures)
 

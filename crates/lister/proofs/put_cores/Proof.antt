@@ -1,4 +1,5 @@
--- `lister::put_cores` meets its contract: the invariant says which coordinates are left to store. Assumes nothing.
+-- `lister::put_cores` meets its contract. The invariant: storing the coordinates from the i-th on, each behind a space, gives what storing
+-- all but the first gives. What falls: the coordinates not stored yet. Assumes nothing.
 use Prim.Native.Nat.{_≤_, _<_, _-_}
 use mathlib.Core.Path.{_≡_, _∙_, ap}
 use native.Mathlib.Omega.{arith}
@@ -16,7 +17,10 @@ use Rattle.lister.proofs.put_cores.Statement.{statement}
 use Rattle.lister.proofs.put_cores.Tie as tie
 
 abbrev Inv-loop : tie.InvT-loop
-Inv-loop out₀ at version row n next₀ i₀ out next i = (1 ≤ i) × (i ≤ length (coresOf version)) × Left (coresAfter (drop 1 (coresOf version))) (coresAfter (drop i (coresOf version))) next₀ out₀ next out
+Inv-loop out₀ at version row n next₀ i₀ out next i =
+    (1 ≤ i)
+    × (i ≤ length (coresOf version))
+    × Left (coresAfter (drop 1 (coresOf version))) (coresAfter (drop i (coresOf version))) next₀ out₀ next out
 
 abbrev μ-loop : tie.MeasureT-loop
 μ-loop out₀ at version row n next₀ i₀ out next i = length (coresOf version) - i
@@ -60,8 +64,9 @@ core-is c =
     let w = c .before .before .before .before in
     let s = w .before .before .before in
     let v = s .args .version in
-    let h : l .i < length (coresOf v) = omega (arith, cores-are w) in (
-      c .wide2 .ensures ∙ ap (λ (r : CoreRow). getD (r .at) (l .i) 0) (w .before .core-row .ensures) ∙ core-at v (s .pre .1) (s .pre .2) (l .i) h,
+    let h : l .i < length (coresOf v) = omega (arith, cores-are w) in
+    let read = c .wide2 .ensures ∙ ap (λ (r : CoreRow). getD (r .at) (l .i) 0) (w .before .core-row .ensures) in (
+      read ∙ core-at v (s .pre .1) (s .pre .2) (l .i) h,
       h,
       omega (arith, l .inv .2 .place, cores-length v (s .pre .1) (s .pre .2)),
     )
@@ -74,25 +79,34 @@ add-put-decimal c = omega (arith, core-is (c .before .before .before .before .be
 
 put-decimal-requires : tie.Need-put-decimal-requires Inv-loop μ-loop
 put-decimal-requires c κs =
-    let s = c .before .before .before .before .before .before .before .before .before .before .before .before in
-    let k = core-is (c .before .before .before .before .before) in
-    let m = core-most (s .args .version) (s .pre .1) (s .pre .2) (c .before .before .before .before .before .before .before .before .loop .i) (k .1) in
+    let read = c .before .before .before .before .before in
+    let l = read .before .before .before .loop in
+    let s = read .before .before .before .before .before .before .before in
+    let k = core-is read in
+    let m = core-most (s .args .version) (s .pre .1) (s .pre .2) (l .i) (k .1) in
     (omega (arith, k .2), omega (arith, k .0))
 
 add-i : tie.Need-add-i Inv-loop μ-loop
-add-i c = omega (arith, core-is (c .before .before .before .before .before .before .before .before) .1)
+add-i c =
+    let put = c .before .before .before .before .before .before in
+    omega (arith, core-is (put .before .before) .1)
 
 loop-less : tie.Need-loop-less Inv-loop μ-loop
-loop-less c = omega (arith, core-is (c .before .before .before .before .before .before .before .before) .1)
+loop-less c =
+    let put = c .before .before .before .before .before .before in
+    omega (arith, core-is (put .before .before) .1)
 
 loop-again : tie.Need-loop-again Inv-loop μ-loop
 loop-again c =
-    let k = core-is (c .before .before .before .before .before .before .before .before) in
-    let l = c .before .before .before .before .before .before .before .before .before .before .before .loop in
-    let v = c .before .before .before .before .before .before .before .before .before .before .before .before .before .before .before .args .version in
-    let core = c .before .before .before .before .before .before .before .before .wide2 .result in
-    let space = stored-byte (l .next) 32 (c .before .before .before .before .before .before .put .ensures) in
-    (omega arith, omega (arith, k .1), cores-next (coresOf v) (l .i) core (k .1) (k .0) (l .inv .2) space (c .before .before .put-decimal .ensures))
+    let put-decimal = c .before .before .put-decimal in
+    let put = c .before .before .before .before .before .before in
+    let read = put .before .before in
+    let l = read .before .before .before .loop in
+    let v = read .before .before .before .before .before .before .before .args .version in
+    let k = core-is read in
+    let space = stored-byte (l .next) 32 (put .put .ensures) in
+    let next = cores-next (coresOf v) (l .i) (read .wide2 .result) (k .1) (k .0) (l .inv .2) space (put-decimal .ensures) in
+    (omega arith, omega (arith, k .1), next)
 
 returns : tie.Need-returns Inv-loop μ-loop
 unfolding coresAfter

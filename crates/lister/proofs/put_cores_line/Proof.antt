@@ -23,24 +23,27 @@ put-requires-2 c κs = search needs
 
 add-result : tie.Need-add-result
 add-result c =
-    let s = c .before .before .before .before .before .before .before .before .before .before .before .before .before in
-    let cores = c .before .before .before .before .before .before .put-cores in
-    omega (arith, cores .ensures .place, cores-length (s .args .version) (s .pre .1) (s .pre .2))
+    let cores = c .before .before .before .before .before .before in
+    let s = cores .before .before .before .before .before .before .before in
+    omega (arith, cores .put-cores .ensures .place, cores-length (s .args .version) (s .pre .1) (s .pre .2))
 
 same-length : tie.Need-same-length
 same-length c = search needs
 
 returns : tie.Need-returns
 returns c =
-    let s = c .before .before .before .before .before .before .before .before .before .before .before .before .before in
+    let put2 = c .before .before .put2 in
+    let at-cores = c .before .before .before .before .before .before in
+    let cores = at-cores .put-cores in
+    let put = at-cores .before .before .before .before .put in
+    let s = at-cores .before .before .before .before .before .before .before in
     let v = s .args .version in
-    let cores = c .before .before .before .before .before .before .put-cores in
     let least = cores-least v (s .pre .1) (s .pre .2) in
     let most = cores-most v (s .pre .1) (s .pre .2) in
     same-piece (cores-line (coresOf v) (omega arith) (core-first v (s .pre .1) (s .pre .2)))
     (joined
-    (joined (stored-byte (s .args .at) 52 (c .before .before .before .before .before .before .before .before .before .before .put .ensures)) (cores .ensures))
-    (stored-byte (cores .result) 10 (c .before .before .put2 .ensures)))
+    (joined (stored-byte (s .args .at) 52 (put .ensures)) (cores .ensures))
+    (stored-byte (cores .result) 10 (put2 .ensures)))
 
 pub put-cores-line-spec : {M : Type 1} → statement M
 put-cores-line-spec =

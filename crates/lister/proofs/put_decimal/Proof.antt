@@ -27,19 +27,22 @@ put-requires c κs = search needs
 
 add-result : tie.Need-add-result
 add-result c =
-    let a = c .before .before .before .before .before .before .before .before .before .before .before .args in
+    let front = c .before .before .before .before .before .before .before in
+    let a = front .before .before .before .before .args in
     let h = decimal-length-two (a .n / 10) (omega arith) in
-    omega (arith, c .before .before .before .before .before .before .before .put-short2 .ensures .place)
+    omega (arith, front .put-short2 .ensures .place)
 
 same-length-2 : tie.Need-same-length-2
 same-length-2 c = search needs
 
 returns-2 : tie.Need-returns-2
 returns-2 c =
-    let s = c .before .before .before .before .before .before .before .before .before .before .before in
-    let front = c .before .before .before .before .before .before .before .put-short2 in
     let d = c .before .before .before .digit in
-    stored-three (s .args .n) (c .before .before .before .before .before .before .before .before .before .if1 .left) (s .pre .1) (d .ensures)
+    let at-front = c .before .before .before .before .before .before .before in
+    let front = at-front .put-short2 in
+    let at-if1 = at-front .before .before in
+    let s = at-if1 .before .before in
+    stored-three (s .args .n) (at-if1 .if1 .left) (s .pre .1) (d .ensures)
     (front .ensures)
     (stored-byte (front .result) (d .result) (c .before .before .put .ensures))
 

@@ -15,8 +15,9 @@ put-requires c κs = search needs
 
 add-result : tie.Need-add-result
 add-result c =
-    let s = c .before .before .before .before .before .before .before .before .before in
-    omega (arith, c .before .before .before .before .before .before .put-decimal .ensures .place, decimal-length (s .args .n) (s .pre .1))
+    let number = c .before .before .before .before .before .before in
+    let s = number .before .before .before in
+    omega (arith, number .put-decimal .ensures .place, decimal-length (s .args .n) (s .pre .1))
 
 same-length : tie.Need-same-length
 same-length c = search needs

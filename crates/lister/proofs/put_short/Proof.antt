@@ -48,13 +48,14 @@ same-length-2 c = search needs
 
 returns-2 : tie.Need-returns-2
 returns-2 c =
-    let s = c .before .before .before .before .before .before .before .before .before .before .before .before in
-    let at = s .args .at in
-    let d = c .before .before .before .before .before .before .before .before .digit2 in
     let e = c .before .before .before .digit3 in
-    let two-digits = c .before .before .before .before .before .before .before .before .before .before .if1 .left in
-    stored-two (s .args .n) two-digits (s .pre .1) (d .ensures) (e .ensures)
-    (stored-byte at (d .result) (c .before .before .before .before .before .before .before .put2 .ensures))
+    let put2 = c .before .before .before .before .before .before .before in
+    let d = put2 .before .digit2 in
+    let at-if1 = put2 .before .before .before in
+    let s = at-if1 .before .before in
+    let at = s .args .at in
+    stored-two (s .args .n) (at-if1 .if1 .left) (s .pre .1) (d .ensures) (e .ensures)
+    (stored-byte at (d .result) (put2 .put2 .ensures))
     (stored-byte (at + 1) (e .result) (c .before .before .put3 .ensures))
 
 pub put-short-spec : {M : Type 1} → statement M

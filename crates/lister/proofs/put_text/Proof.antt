@@ -1,4 +1,5 @@
--- `lister::put_text` meets its contract: the invariant says what is left to store. Assumes nothing.
+-- `lister::put_text` meets its contract. The invariant: storing the bytes from `at` on gives what storing the whole text gives. What falls:
+-- the bytes not stored yet. Assumes nothing.
 use Prim.Native.Nat.{_≤_, _-_}
 use native.Mathlib.Omega.{arith}
 use borrow.Author.Needs.{needs}
@@ -31,13 +32,17 @@ loop-less c = omega arith
 
 loop-again : tie.Need-loop-again Inv-loop μ-loop
 loop-again c =
-    let text = c .before .before .before .before .before .before .before .before .before .args .text .now in
-    let l = c .before .before .before .before .before .before .loop in
-    text-next text (c .before .before .before .before .before .loop-test .taken) (l .inv .1)
-    (stored-byte (l .at) (getD text (l .at) 0) (c .before .before .put .ensures))
+    let turn = c .before .before .before .before .before in
+    let at-loop = turn .before in
+    let l = at-loop .loop in
+    let text = at-loop .before .before .before .args .text .now in
+    let stored = stored-byte (l .at) (getD text (l .at) 0) (c .before .before .put .ensures) in
+    text-next text (turn .loop-test .taken) (l .inv .1) stored
 
 returns : tie.Need-returns Inv-loop μ-loop
-returns c = left-none (drop-of-length-le (c .before .before .before .before .args .text .now) (c .loop-test .left)) (c .before .loop .inv .1)
+returns c =
+    let text = c .before .before .before .before .args .text .now in
+    left-none (drop-of-length-le text (c .loop-test .left)) (c .before .loop .inv .1)
 
 same-length : tie.Need-same-length Inv-loop μ-loop
 same-length c = stored-kept (returns c)

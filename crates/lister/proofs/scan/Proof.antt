@@ -1,4 +1,5 @@
--- `lister::scan` meets its contract. The invariant: what is left, scanned from here, gives the result. Assumes nothing.
+-- `lister::scan` meets its contract. The invariant: what is left, scanned from here, gives the result. What falls: the bytes not scanned
+-- yet. Assumes nothing.
 use Prim.Native.Nat.{_≤_, _<_, _-_}
 use mathlib.Core.Path.{_≡_, _∙_, refl}
 use native.Mathlib.Omega.{arith}

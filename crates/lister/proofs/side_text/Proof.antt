@@ -25,8 +25,9 @@ same-length c = search needs
 returns : tie.Need-returns
 unfolding refusedLine
 returns c =
-    let e = refused-below (c .before .before .before .before .before .before .before .args .version) (c .before .before .before .before .before .if1 .taken) in
-    from-start (same-piece e (c .before .before .put-text .ensures)) (omega (arith, ap length e))
+    let at-if1 = c .before .before .before .before .before in
+    let refused = refused-below (at-if1 .before .before .args .version) (at-if1 .if1 .taken) in
+    from-start (same-piece refused (c .before .before .put-text .ensures)) (omega (arith, ap length refused))
 
 slice-aggregate-put-text-2 : tie.Need-slice-aggregate-put-text-2
 slice-aggregate-put-text-2 c = search needs
@@ -40,8 +41,9 @@ same-length-2 c = search needs
 returns-2 : tie.Need-returns-2
 unfolding refusedLine
 returns-2 c =
-    let e = refused-above (c .before .before .before .before .before .before .before .before .args .version) (c .before .before .before .before .before .if2 .taken) in
-    from-start (same-piece e (c .before .before .put-text2 .ensures)) (omega (arith, ap length e))
+    let at-if2 = c .before .before .before .before .before in
+    let refused = refused-above (at-if2 .before .before .before .args .version) (at-if2 .if2 .taken) in
+    from-start (same-piece refused (c .before .before .put-text2 .ensures)) (omega (arith, ap length refused))
 
 cast-side-size : tie.Need-cast-side-size
 cast-side-size c = search needs
@@ -60,26 +62,42 @@ first-line c = same-piece (ap numberLine (c .before .side-size .ensures)) (c .pu
 
 put-cores-line-requires : tie.Need-put-cores-line-requires
 put-cores-line-requires c κs =
-    let f = lines-fit (c .before .before .before .before .before .before .before .before .before .args .version) (c .before .before .before .before .before .before .before .if1 .left) (c .before .before .before .before .before .before .if2 .left) in
-    (omega (arith, first-line (c .before .before .before) .place), c .before .before .before .before .before .before .before .if1 .left, c .before .before .before .before .before .before .if2 .left)
+    let first = c .before .before .before in
+    let at-if2 = first .before .before .before in
+    let at-if1 = at-if2 .before in
+    let least = at-if1 .if1 .left in
+    let most = at-if2 .if2 .left in
+    let f = lines-fit (at-if1 .before .before .args .version) least most in
+    (omega (arith, first-line first .place), least, most)
 
 inner-patterns-requires : tie.Need-inner-patterns-requires
 inner-patterns-requires c κs = search needs
 
 put-number-line-requires-2 : tie.Need-put-number-line-requires-2
 put-number-line-requires-2 c κs =
-    let f = lines-fit (c .before .before .before .before .before .before .before .before .before .before .before .before .before .before .args .version) (c .before .before .before .before .before .before .before .before .before .before .before .before .if1 .left) (c .before .before .before .before .before .before .before .before .before .before .before .if2 .left) in
-    (omega (arith, first-line (c .before .before .before .before .before .before .before .before) .place, c .before .before .before .before .put-cores-line .ensures .place), omega (arith, c .inner-patterns .ensures .1))
+    let second = c .before .before .before .before in
+    let first = second .before .before .before .before in
+    let at-if2 = first .before .before .before in
+    let at-if1 = at-if2 .before in
+    let f = lines-fit (at-if1 .before .before .args .version) (at-if1 .if1 .left) (at-if2 .if2 .left) in
+    (omega (arith, first-line first .place, second .put-cores-line .ensures .place), omega (arith, c .inner-patterns .ensures .1))
 
 same-length-3 : tie.Need-same-length-3
 same-length-3 c = search needs
 
 returns-3 : tie.Need-returns-3
 returns-3 c =
-    let v = c .before .before .before .before .before .before .before .before .before .before .before .before .before .before .before .before .before .args .version in
-    let third = same-piece (ap numberLine (c .before .before .before .inner-patterns .ensures .0)) (c .before .before .put-number-line2 .ensures) in
-    let lines = joined (joined (first-line (c .before .before .before .before .before .before .before .before .before .before .before)) (c .before .before .before .before .before .before .before .put-cores-line .ensures)) third in
-    from-start (same-piece (three-lines v (c .before .before .before .before .before .before .before .before .before .before .before .before .before .before .before .if1 .left) (c .before .before .before .before .before .before .before .before .before .before .before .before .before .before .if2 .left)) lines) (text-length v (c .before .before .before .before .before .before .before .before .before .before .before .before .before .before .before .if1 .left) (c .before .before .before .before .before .before .before .before .before .before .before .before .before .before .if2 .left))
+    let inner-patterns = c .before .before .before .inner-patterns in
+    let second = c .before .before .before .before .before .before .before in
+    let first = second .before .before .before .before in
+    let at-if2 = first .before .before .before in
+    let at-if1 = at-if2 .before in
+    let v = at-if1 .before .before .args .version in
+    let least = at-if1 .if1 .left in
+    let most = at-if2 .if2 .left in
+    let third = same-piece (ap numberLine (inner-patterns .ensures .0)) (c .before .before .put-number-line2 .ensures) in
+    let lines = joined (joined (first-line first) (second .put-cores-line .ensures)) third in
+    from-start (same-piece (three-lines v least most) lines) (text-length v least most)
 
 pub side-text-spec : {M : Type 1} → statement M
 side-text-spec =
