@@ -1,4 +1,5 @@
--- `side_lister::input_number` is safe and ends: the count of turns rises to its bound. Assumes nothing.
+-- `side_lister::input_number` is safe and ends. The invariant: the buffer keeps its 4,096 bytes. What falls: the turns left up to the bound
+-- of their count. Assumes nothing.
 use Prim.Native.Nat.{_-_}
 use mathlib.Core.Path.{_≡_}
 use borrow.Author.Needs.{needs}
