@@ -24,7 +24,8 @@ halves a b c d = omega arith
 
 -- The product of 64-bit words, without its carry, is the sum of the products of halves that are not all carry.
 pub wrapped : (x y : ℕ)
-    → (x % 2 ^ 32 * (y % 2 ^ 32) + (x / 2 ^ 32 * (y % 2 ^ 32) + x % 2 ^ 32 * (y / 2 ^ 32)) % 2 ^ 64 * 2 ^ 32 % 2 ^ 64) % 2 ^ 64 ≡ x * y % 2 ^ 64
+    → (x % 2 ^ 32 * (y % 2 ^ 32) + (x / 2 ^ 32 * (y % 2 ^ 32) + x % 2 ^ 32 * (y / 2 ^ 32)) % 2 ^ 64 * 2 ^ 32 % 2 ^ 64) % 2 ^ 64
+    ≡ x * y % 2 ^ 64
 wrapped x y =
     let a : ℕ = x / 2 ^ 32 in
     let b : ℕ = x % 2 ^ 32 in

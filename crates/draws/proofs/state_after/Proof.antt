@@ -1,4 +1,5 @@
--- `draws::state_after` meets its contract: what is left to draw leads to the state asked for. Assumes nothing.
+-- `draws::state_after` meets its contract. The invariant: the draws left lead from this state to the state asked for. What falls: `left`,
+-- the number of these draws. Assumes nothing.
 use mathlib.Core.Path.{_≡_, refl, sym, _∙_}
 use native.Mathlib.Omega.{arith}
 use borrow.Author.Needs.{needs}
