@@ -38,7 +38,8 @@ pub column-front : (cs : List ℕ) (more : List (List ℕ)) → isAscii cs ≡ t
     → take 1 (drop v cs) ≡ characterBytes (map (λ c. c ∷ []) cs ++ more) v
 unfolding characterBytes
 column-front cs more h v l =
-    column cs h v ∙ ap utf8Bytes (sym (List·getD-append (map (λ c. c ∷ []) cs) more [] v (omega (arith, length-map cs (λ (c : ℕ). c ∷ [])))))
+    let inside : v < length (map (λ (c : ℕ). c ∷ []) cs) = omega (arith, length-map cs (λ (c : ℕ). c ∷ [])) in
+    column cs h v ∙ ap utf8Bytes (sym (List·getD-append (map (λ c. c ∷ []) cs) more [] v inside))
 
 -- there are 32 mixed characters
 pub past-mixed : (v : ℕ) → 32 ≤ v → [] ≡ characterBytes mixedCharacters v
@@ -62,7 +63,8 @@ pairs : tabulate 13 pair ≡ tabulate 13 (λ i. characterBytes mixedCharacters (
 unfolding tabulate pair mixedCharacters characterBytes utf8Bytes utf8
 pairs = refl
 
-pub two-of : (v : ℕ) → 19 ≤ v → v < 32 → (v ≡ 23 → ⊥) → getD mixedFirst (v - 19) 0 ∷ getD mixedSecond (v - 19) 0 ∷ [] ≡ characterBytes mixedCharacters v
+pub two-of : (v : ℕ) → 19 ≤ v → v < 32 → (v ≡ 23 → ⊥)
+    → getD mixedFirst (v - 19) 0 ∷ getD mixedSecond (v - 19) 0 ∷ [] ≡ characterBytes mixedCharacters v
 unfolding pair
 two-of v least most other =
     let i : ℕ = v - 19 in

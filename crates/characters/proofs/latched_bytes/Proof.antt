@@ -48,22 +48,26 @@ character-requires-4 c κs = search needs
 returns : tie.Need-returns
 unfolding charactersOf upperCharacters tabulate isAscii
 returns c =
-    rw (c .before .before .enum-told .given .1) (c .character .ensures ∙ ap codeBytes (column _ refl (c .before .before .before .before .args .v)))
+    let v = c .before .before .before .before .args .v in
+    rw (c .before .before .enum-told .given .1) (c .character .ensures ∙ ap codeBytes (column _ refl v))
 
 returns-2 : tie.Need-returns-2
 unfolding charactersOf lowerCharacters tabulate isAscii
 returns-2 c =
-    rw (c .before .before .enum-told2 .given .1) (c .character2 .ensures ∙ ap codeBytes (column _ refl (c .before .before .before .before .args .v)))
+    let v = c .before .before .before .before .args .v in
+    rw (c .before .before .enum-told2 .given .1) (c .character2 .ensures ∙ ap codeBytes (column _ refl v))
 
 returns-3 : tie.Need-returns-3
 unfolding charactersOf numericCharacters tabulate isAscii
 returns-3 c =
-    rw (c .before .before .enum-told3 .given .1) (c .character3 .ensures ∙ ap codeBytes (column _ refl (c .before .before .before .before .args .v)))
+    let v = c .before .before .before .before .args .v in
+    rw (c .before .before .enum-told3 .given .1) (c .character3 .ensures ∙ ap codeBytes (column _ refl v))
 
 returns-4 : tie.Need-returns-4
 unfolding charactersOf alphanumericCharacters tabulate isAscii
 returns-4 c =
-    rw (c .before .before .enum-told4 .given .1) (c .character4 .ensures ∙ ap codeBytes (column _ refl (c .before .before .before .before .args .v)))
+    let v = c .before .before .before .before .args .v in
+    rw (c .before .before .enum-told4 .given .1) (c .character4 .ensures ∙ ap codeBytes (column _ refl v))
 
 pub latched-bytes-spec : {M : Type 1} → statement M
 latched-bytes-spec =

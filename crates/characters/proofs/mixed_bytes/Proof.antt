@@ -15,7 +15,9 @@ character-requires c κs = search needs
 
 returns : tie.Need-returns
 unfolding mixedCharacters isAscii
-returns c = c .character .ensures ∙ ap codeBytes (column-front _ _ refl (c .before .before .before .args .v) (c .before .before .if1 .taken))
+returns c =
+    let at-if1 = c .before .before in
+    c .character .ensures ∙ ap codeBytes (column-front _ _ refl (at-if1 .before .args .v) (at-if1 .if1 .taken))
 
 mixed-several-requires : tie.Need-mixed-several-requires
 mixed-several-requires c κs = search needs
