@@ -92,6 +92,7 @@ module _ (net : List ℕ) (room : ℕ) (before : List ℕ) where
     message-read {a} {after} {second} z h read e =
         let bytes : List ℕ = messageInNet net in
         let fits : length bytes ≤ room = omega (arith, length-is) in
-        let long : second .count ≡ length bytes = read .count-is ∙ ap (λ (s : List ℕ). length (decode s .bytes)) (stream-is net (c .end-is)) in
+        let long : second .count ≡ length bytes =
+        read .count-is ∙ ap (λ (s : List ℕ). length (decode s .bytes)) (stream-is net (c .end-is)) in
         let stored : after ≡ sets before 0 bytes = read .stored ∙ rw (stream-is net (c .end-is), kept) in
         record { answer-is = e ∙ rw (marked, sym number-is, z, long, le-ltb room (length bytes) fits); message-is = stored ∙ rw e refl }

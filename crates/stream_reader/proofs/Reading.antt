@@ -99,7 +99,8 @@ module _ {stream before after : List ℕ} {m : Mode} {e : Expected} {at n : ℕ}
         (code-read ∙ rw (sym from) (stops a other)) k bytes-stored
       where
         stops : (a : ModeAnswer) → ((m′ : Mode) (e′ : Expected) → a ≡ Next m′ e′ → ⊥)
-            → readOn a (drop (at + w) stream) (s .read ++ bytesOf m e v) ≡ record { number = modeNumber a; bytes = s .read ++ bytesOf m e v }
+            → readOn a (drop (at + w) stream) (s .read ++ bytesOf m e v)
+            ≡ record { number = modeNumber a; bytes = s .read ++ bytesOf m e v }
         stops (Next m′ e′) other = absurd (other m′ e′ refl)
         stops EndOfMessage other = refl
         stops Undefined other = refl

@@ -30,11 +30,13 @@ first c =
     stored-byte (a .at) (a .b .first) (c .put .ensures)
 
 two : (c : tie.After-put2)
-    → let a = c .before .before .before .before .before .before .before .before .before .before .before .args in
+    → let put = c .before .before .before .before .before .before in
+    let a = put .before .before .before .before .before .args in
     StoredAt (a .b .first ∷ a .b .second ∷ []) (a .at) (a .out .now) (c .put2 .last .0) (a .at + 1 + 1)
 two c =
-    let a = c .before .before .before .before .before .before .before .before .before .before .before .args in
-    joined (first (c .before .before .before .before .before .before)) (stored-byte (a .at + 1) (a .b .second) (c .put2 .ensures))
+    let put = c .before .before .before .before .before .before in
+    let a = put .before .before .before .before .before .args in
+    joined (first put) (stored-byte (a .at + 1) (a .b .second) (c .put2 .ensures))
 
 same-length : tie.Need-same-length
 same-length c = search needs
@@ -65,11 +67,13 @@ same-length-3 c = search needs
 
 returns-4 : tie.Need-returns-4
 returns-4 c =
-    let a = c .before .before .before .before .before .before .before .before .before .before .before .before .before .before .before .before .before .before .before .args in
+    let put3 = c .before .before in
+    let put2 = put3 .before .before .before .before .before .before in
+    let put = put2 .before .before .before .before .before .before in
+    let a = put .before .before .before .before .before .args in
     let b = a .b in
     same-piece (sym (take-all (b .count) (b .first ∷ b .second ∷ b .third ∷ []) (omega arith)))
-    (joined (two (c .before .before .before .before .before .before .before .before))
-    (stored-byte (a .at + 1 + 1) (b .third) (c .before .before .put3 .ensures)))
+    (joined (two put2) (stored-byte (a .at + 1 + 1) (b .third) (put3 .put3 .ensures)))
 
 pub put-bytes-spec : {M : Type 1} → statement M
 put-bytes-spec =

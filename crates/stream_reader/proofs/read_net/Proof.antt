@@ -35,8 +35,9 @@ stream-refused-requires c κs = search needs
 
 returns : tie.Need-returns
 returns c =
+    let up-to-last-one = c .before .before .up-to-last-one in
     let a = c .before .before .before .before .before .args in
-    all-zero (a .net .now) (a .room) (a .message .now) (c .before .before .up-to-last-one .ensures) (c .before .if1 .taken) (c .stream-refused .ensures)
+    all-zero (a .net .now) (a .room) (a .message .now) (up-to-last-one .ensures) (c .before .if1 .taken) (c .stream-refused .ensures)
 
 sub-mark : tie.Need-sub-mark
 sub-mark c = search needs
@@ -99,7 +100,8 @@ returns-4 c =
     let read = fits .before .before in
     let first = read .before .before .before .before in
     let a = first .before .before .before .before .before .before .before .args in
-    message-read (a .net .now) (a .room) (a .message .now) (passed first) (read .if2 .left) (fits .if3 .left) (second .read-stream2 .ensures)
+    message-read (a .net .now) (a .room) (a .message .now) (passed first) (read .if2 .left) (fits .if3 .left)
+    (second .read-stream2 .ensures)
     (c .stream-done .ensures)
 
 pub read-net-spec : {M : Type 1} → statement M

@@ -1,4 +1,5 @@
--- `stream_reader::read_stream` meets its contract: the reading goes on where it stands. Assumes nothing.
+-- `stream_reader::read_stream` meets its contract. The invariant: the bytes read so far are stored, and the reading of the whole stream
+-- goes on from bit `at` in this mode with this expected code. What falls: the bits not read yet. Assumes nothing.
 use Prim.Native.Nat.{_-_}
 use mathlib.Core.Path.{sym, _∙_}
 use native.Mathlib.Omega.{arith}
@@ -17,9 +18,15 @@ abbrev μ-loop : tie.MeasureT-loop
 μ-loop stream out₀ mode₀ expected₀ at₀ count₀ out mode expected at count = length stream - at
 
 -- the code that a turn has read
-coded : (c : tie.After-slice-known2 Inv-loop μ-loop) → let l = c .before .before .before .before .before .before .before .before .loop in
-    let p = c .before .before .put-bytes in
-    Coded (c .before .before .before .before .before .before .before .before .before .before .before .args .stream .now) (l .out) (l .mode) (l .expected) (l .at) (l .count) (c .before .before .before .before .before .before .before .code-width .result) (c .before .before .before .before .before .bits-value .result) (c .before .before .before .bytes-of .result) (p .last .0) (p .result)
+coded : (c : tie.After-slice-known2 Inv-loop μ-loop)
+    → let p = c .before .before .put-bytes in
+    let b = c .before .before .before .bytes-of in
+    let v = c .before .before .before .before .before .bits-value in
+    let w = c .before .before .before .before .before .before .before in
+    let l = w .before .loop in
+    let stream = w .before .before .before .before .args .stream .now in
+    Coded stream (l .out) (l .mode) (l .expected) (l .at) (l .count)
+    (w .code-width .result) (v .result) (b .result) (p .last .0) (p .result)
 coded c =
     record {
       width = c .before .before .before .before .before .before .before .code-width .ensures;
@@ -47,7 +54,9 @@ same-length : tie.Need-same-length Inv-loop μ-loop
 same-length c = stored-kept (c .before .before .before .loop .inv .stored)
 
 returns : tie.Need-returns Inv-loop μ-loop
-returns c = stands-short (c .before .before .before .loop .inv) (c .before .before .code-width .ensures) (c .before .if1 .taken) (c .end-number .ensures)
+returns c =
+    let l = c .before .before .before .loop in
+    stands-short (l .inv) (c .before .before .code-width .ensures) (c .before .if1 .taken) (c .end-number .ensures)
 
 bits-value-requires : tie.Need-bits-value-requires Inv-loop μ-loop
 bits-value-requires c κs =
@@ -73,25 +82,34 @@ mode-number-requires : tie.Need-mode-number-requires Inv-loop μ-loop
 mode-number-requires c κs = search needs
 
 same-length-2 : tie.Need-same-length-2 Inv-loop μ-loop
-same-length-2 c = stored-kept (coded (c .before .before .before) .piece) ∙ stored-kept (c .before .before .before .before .before .before .before .before .before .before .before .loop .inv .stored)
+same-length-2 c =
+    let stored = c .before .before .before in
+    let width = stored .before .before .before .before .before .before .before in
+    stored-kept (coded stored .piece) ∙ stored-kept (width .before .loop .inv .stored)
 
 returns-2 : tie.Need-returns-2 Inv-loop μ-loop
 returns-2 c =
-    let l = c .before .before .before .before .before .before .before .before .before .before .before .loop in
-    stands-stop (l .inv) (coded (c .before .before .before)) (c .before .before .switch-of .result) (c .before .before .switch-of .ensures)
+    let switch-of = c .before .before .switch-of in
+    let stored = c .before .before .before in
+    let width = stored .before .before .before .before .before .before .before in
+    stands-stop (width .before .loop .inv) (coded stored) (switch-of .result) (switch-of .ensures)
     (λ m e q. no-other (rw q at (c .before .match .keys2))) (c .mode-number .ensures)
 
 loop-less : tie.Need-loop-less Inv-loop μ-loop
 loop-less c =
-    let l = c .before .before .before .before .before .before .before .before .before .before .before .before .loop in
-    let t = coded (c .before .before .before .before) in
+    let stored = c .before .before .before .before in
+    let width = stored .before .before .before .before .before .before .before in
+    let l = width .before .loop in
+    let t = coded stored in
     omega (arith, t .width, t .whole, width-some (l .mode) (l .expected))
 
 loop-again : tie.Need-loop-again Inv-loop μ-loop
 loop-again c =
-    let l = c .before .before .before .before .before .before .before .before .before .before .before .before .loop in
     let a = c .before .answer .given in
-    stands-next (l .inv) (coded (c .before .before .before .before)) (a .0 .0) (a .0 .1 .0) (sym (c .before .before .before .switch-of .ensures) ∙ a .1)
+    let switch-of = c .before .before .before .switch-of in
+    let stored = c .before .before .before .before in
+    let width = stored .before .before .before .before .before .before .before in
+    stands-next (width .before .loop .inv) (coded stored) (a .0 .0) (a .0 .1 .0) (sym (switch-of .ensures) ∙ a .1)
 
 pub read-stream-spec : {M : Type 1} → statement M
 read-stream-spec =

@@ -1,4 +1,5 @@
--- `stream_reader::up_to_last_one` meets its contract: no bit from n on is 1. Assumes nothing.
+-- `stream_reader::up_to_last_one` meets its contract. The invariant: the last 1 of all the bits is that of the first n. What falls: n.
+-- Assumes nothing.
 use Prim.Native.Nat.{_≤_}
 use mathlib.Core.Path.{_≡_, sym, ap, _∙_}
 use native.Mathlib.Omega.{arith}
@@ -27,8 +28,10 @@ shared-slice-read-if1 c = search needs
 
 returns : tie.Need-returns Inv-loop μ-loop
 returns c =
-    let l = c .before .before .before .loop in
-    sym (l .inv .1 ∙ found (c .before .before .before .before .args .net .now) (l .n) (c .before .before .loop-test .taken) (l .inv .0) (c .if1 .taken))
+    let at-loop = c .before .before .before in
+    let l = at-loop .loop in
+    let net = at-loop .before .args .net .now in
+    sym (l .inv .1 ∙ found net (l .n) (c .before .before .loop-test .taken) (l .inv .0) (c .if1 .taken))
 
 sub-n : tie.Need-sub-n Inv-loop μ-loop
 sub-n c = search needs
@@ -38,8 +41,10 @@ loop-less c = search needs
 
 loop-again : tie.Need-loop-again Inv-loop μ-loop
 loop-again c =
-    let l = c .before .before .before .loop in
-    (omega arith, l .inv .1 ∙ passed (c .before .before .before .before .args .net .now) (l .n) (c .before .before .loop-test .taken) (l .inv .0) (c .if1 .left))
+    let at-loop = c .before .before .before in
+    let l = at-loop .loop in
+    let net = at-loop .before .args .net .now in
+    (omega arith, l .inv .1 ∙ passed net (l .n) (c .before .before .loop-test .taken) (l .inv .0) (c .if1 .left))
 
 returns-2 : tie.Need-returns-2 Inv-loop μ-loop
 unfolding upToLastOne
