@@ -1,4 +1,5 @@
--- `stream_writer::write_bytes` meets its contract: the invariant says which bytes are left to store. Assumes nothing.
+-- `stream_writer::write_bytes` meets its contract. The invariant: storing the bits of the bytes from i on gives what storing those of all
+-- bytes gives. What falls: the bytes not stored yet. Assumes nothing.
 use Prim.Native.Nat.{_+_, _-_, _≤_}
 use mathlib.Core.Path.{refl, ap}
 use native.Mathlib.Omega.{arith}
@@ -49,9 +50,13 @@ loop-less c = search needs
 
 loop-again : tie.Need-loop-again Inv-loop μ-loop
 loop-again c =
-    let m = c .before .before .before .before .before .before .before .before .before .args .bytes .now in
-    let l = c .before .before .before .before .before .before .loop in
-    (omega arith, left-next (bytes-next m (l .i) (c .before .before .before .before .before .loop-test .taken)) (l .inv .1) (field 8 (getD m (l .i) 0) refl (c .before .before .put-bits .ensures)))
+    let put-bits = c .before .before .put-bits in
+    let turn = c .before .before .before .before .before in
+    let at-loop = turn .before in
+    let l = at-loop .loop in
+    let m = at-loop .before .before .before .args .bytes .now in
+    let stored = field 8 (getD m (l .i) 0) refl (put-bits .ensures) in
+    (omega arith, left-next (bytes-next m (l .i) (turn .loop-test .taken)) (l .inv .1) stored)
 
 returns : tie.Need-returns Inv-loop μ-loop
 unfolding byteBits

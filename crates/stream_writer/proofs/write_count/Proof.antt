@@ -20,8 +20,10 @@ same-length c = search needs
 
 returns : tie.Need-returns
 returns c =
-    let n = c .before .before .before .before .before .before .args .n in
-    same-piece (sym (count-short n (c .before .before .before .before .if1 .taken))) (field 4 n refl (c .before .before .put-bits .ensures))
+    let put-bits = c .before .before .put-bits in
+    let at-if1 = c .before .before .before .before in
+    let n = at-if1 .before .before .args .n in
+    same-piece (sym (count-short n (at-if1 .if1 .taken))) (field 4 n refl (put-bits .ensures))
 
 put-bits-requires-2 : tie.Need-put-bits-requires-2
 put-bits-requires-2 c κs = omega (arith, long-length (c .before .before .before .args .n) (c .before .if1 .left))
@@ -33,7 +35,9 @@ sub-put-bits : tie.Need-sub-put-bits
 sub-put-bits c = search needs
 
 put-bits-requires-3 : tie.Need-put-bits-requires-3
-put-bits-requires-3 c κs = omega (arith, long-length (c .before .before .before .before .before .before .before .args .n) (c .before .before .before .before .before .if1 .left))
+put-bits-requires-3 c κs =
+    let at-if1 = c .before .before .before .before .before in
+    omega (arith, long-length (at-if1 .before .before .args .n) (at-if1 .if1 .left))
 
 add-result-2 : tie.Need-add-result-2
 add-result-2 c = search needs
@@ -43,9 +47,12 @@ same-length-2 c = search needs
 
 returns-2 : tie.Need-returns-2
 returns-2 c =
-    let n = c .before .before .before .before .before .before .before .before .before .before .args .n in
-    same-piece (sym (count-long n (c .before .before .before .before .before .before .before .before .if1 .left)))
-    (joined (field 4 0 refl (c .before .before .before .before .before .before .put-bits2 .ensures)) (field 13 (n - 15) (omega arith) (c .before .before .put-bits3 .ensures)))
+    let put-bits3 = c .before .before .put-bits3 in
+    let zeros = c .before .before .before .before .before .before in
+    let at-if1 = zeros .before .before in
+    let n = at-if1 .before .before .args .n in
+    same-piece (sym (count-long n (at-if1 .if1 .left)))
+    (joined (field 4 0 refl (zeros .put-bits2 .ensures)) (field 13 (n - 15) (omega arith) (put-bits3 .ensures)))
 
 pub write-count-spec : {M : Type 1} → statement M
 write-count-spec =

@@ -26,12 +26,15 @@ clear-requires c κs =
 
 returns : tie.Need-returns
 returns c =
-    let s = c .before .before .before .before .before .before .before .before .before .before in
-    net-stored (streamOf (s .args .message .now)) (s .pre) (c .before .before .before .before .before .before .write-stream .ensures) (c .before .before .clear .ensures)
+    let clear = c .before .before .clear in
+    let write-stream = c .before .before .before .before .before .before in
+    let s = write-stream .before .before .before .before in
+    net-stored (streamOf (s .args .message .now)) (s .pre) (write-stream .write-stream .ensures) (clear .ensures)
 
 same-length : tie.Need-same-length
 same-length c =
-    let s = c .before .before .before .before .before .before .before .before .before .before in
+    let write-stream = c .before .before .before .before .before .before in
+    let s = write-stream .before .before .before .before in
     ap length (returns c) ∙ length-net (length (s .args .net .now)) (streamOf (s .args .message .now)) (s .pre)
 
 pub write-net-spec : {M : Type 1} → statement M

@@ -20,15 +20,23 @@ write-count-requires c κs =
     (s .pre .0, omega (arith, run-length (s .args .bytes .now)))
 
 write-bytes-requires : tie.Need-write-bytes-requires
-write-bytes-requires c κs = omega (arith, run-length (c .before .before .before .before .before .before .before .before .before .before .before .args .bytes .now), c .before .before .before .write-count .ensures .place)
+write-bytes-requires c κs =
+    let count = c .before .before .before in
+    let put-bits = count .before .before .before .before in
+    let m = put-bits .before .before .before .before .args .bytes .now in
+    omega (arith, run-length m, count .write-count .ensures .place)
 
 same-length : tie.Need-same-length
 same-length c = search needs
 
 returns : tie.Need-returns
 returns c =
-    let head = joined (field 7 124 refl (c .before .before .before .before .before .before .before .before .before .before .put-bits .ensures)) (c .before .before .before .before .before .before .write-count .ensures) in
-    same-piece (run-pieces (c .before .before .before .before .before .before .before .before .before .before .before .before .before .before .args .bytes .now)) (joined head (c .before .before .write-bytes .ensures))
+    let write-bytes = c .before .before .write-bytes in
+    let count = c .before .before .before .before .before .before in
+    let put-bits = count .before .before .before .before in
+    let m = put-bits .before .before .before .before .args .bytes .now in
+    let head = joined (field 7 124 refl (put-bits .put-bits .ensures)) (count .write-count .ensures) in
+    same-piece (run-pieces m) (joined head (write-bytes .ensures))
 
 pub write-run-spec : {M : Type 1} → statement M
 write-run-spec =

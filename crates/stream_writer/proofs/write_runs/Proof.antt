@@ -1,4 +1,5 @@
--- `stream_writer::write_runs` meets its contract: the invariant says which bytes of the message are left to store. Assumes nothing.
+-- `stream_writer::write_runs` meets its contract. The invariant: storing the stream of the message from `from` on gives what storing that
+-- of the whole message gives. What falls: the bytes of the message not stored yet. Assumes nothing.
 use Prim.Native.Nat.{_-_, _≤_}
 use mathlib.Core.Path.{ap}
 use native.Mathlib.Omega.{arith}
@@ -11,7 +12,9 @@ use Rattle.stream_writer.proofs.write_runs.Statement.{statement}
 use Rattle.stream_writer.proofs.write_runs.Tie as tie
 
 abbrev Inv-loop : tie.InvT-loop
-Inv-loop message out₀ at₀ from₀ out at from = (from ≤ length message) × Left (byteStream message) (byteStream (drop from message)) 0 out₀ at out
+Inv-loop message out₀ at₀ from₀ out at from =
+    (from ≤ length message)
+    × Left (byteStream message) (byteStream (drop from message)) 0 out₀ at out
 
 abbrev μ-loop : tie.MeasureT-loop
 μ-loop message out₀ at₀ from₀ out at from = length message - from
@@ -49,10 +52,12 @@ loop-less c = search needs
 
 loop-again : tie.Need-loop-again Inv-loop μ-loop
 loop-again c =
-    let m = c .before .before .before .before .before .before .before .before .before .before .args .message .now in
-    let l = c .before .before .before .before .before .before .before .loop in
+    let write-run = c .before .before .write-run in
     let to = c .before .before .before .before .before .run-end in
-    (to .ensures .1, left-next (stream-next m (l .from) (to .result) (to .ensures)) (l .inv .1) (c .before .before .write-run .ensures))
+    let at-loop = c .before .before .before .before .before .before .before in
+    let l = at-loop .loop in
+    let m = at-loop .before .before .before .args .message .now in
+    (to .ensures .1, left-next (stream-next m (l .from) (to .result) (to .ensures)) (l .inv .1) (write-run .ensures))
 
 returns : tie.Need-returns Inv-loop μ-loop
 unfolding byteStream byteRuns
