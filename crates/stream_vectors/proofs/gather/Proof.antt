@@ -1,4 +1,5 @@
--- `stream_vectors::gather` is safe: no more bits than bytes of the line. Assumes nothing.
+-- `stream_vectors::gather` is safe. The invariant: no more bits are stored than bytes of the line passed, and the buffer keeps its length.
+-- What falls: the bytes of the line not passed yet. Assumes nothing.
 use Prim.Native.Nat.{_-_, _≤_}
 use mathlib.Core.Path.{_≡_, ap}
 use mathlib.Core.Logic.{⊎-elim}

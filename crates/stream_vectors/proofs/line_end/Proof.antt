@@ -1,4 +1,5 @@
--- `stream_vectors::line_end` is safe: the place never passes the end of the input, nor 1,024 bytes. Assumes nothing.
+-- `stream_vectors::line_end` is safe. The invariant: the place passes neither the end of the input nor 1,024 bytes of the line. What falls:
+-- the bytes of the input behind it. Assumes nothing.
 use Prim.Native.Nat.{_+_, _-_, _≤_}
 use lib.ListN.{length}
 use borrow.Author.Needs.{needs}

@@ -1,4 +1,5 @@
--- `stream_vectors::print_bits` is safe: a digit of a bit fits a byte. Assumes nothing.
+-- `stream_vectors::print_bits` is safe: a digit of a bit fits a byte. The invariant: i is at most the number of the bits. What falls: the
+-- bits not printed yet. Assumes nothing.
 use Prim.Native.Nat.{_-_, _≤_}
 use lib.ListN.{length}
 use borrow.Author.Needs.{needs}

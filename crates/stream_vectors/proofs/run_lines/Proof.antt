@@ -1,4 +1,5 @@
--- `stream_vectors::run_lines` is safe: each line ends inside the input, and the next starts behind it. Assumes nothing.
+-- `stream_vectors::run_lines` is safe: each line ends inside the input. The invariant: the next line starts at most one byte behind the
+-- input, and both buffers keep their lengths. What falls: the bytes from there to one behind the input. Assumes nothing.
 use Prim.Native.Nat.{_+_, _-_, _≤_}
 use mathlib.Core.Path.{_≡_}
 use lib.ListN.{length}
@@ -7,7 +8,10 @@ use Rattle.stream_vectors.proofs.run_lines.Statement.{statement}
 use Rattle.stream_vectors.proofs.run_lines.Tie as tie
 
 abbrev Inv-loop : tie.InvT-loop
-Inv-loop input bits₀ message₀ from₀ bits message from = (from ≤ length input + 1) × (length bits ≡ length bits₀) × (length message ≡ length message₀)
+Inv-loop input bits₀ message₀ from₀ bits message from =
+    (from ≤ length input + 1)
+    × (length bits ≡ length bits₀)
+    × (length message ≡ length message₀)
 
 abbrev μ-loop : tie.MeasureT-loop
 μ-loop input bits₀ message₀ from₀ bits message from = length input + 1 - from
