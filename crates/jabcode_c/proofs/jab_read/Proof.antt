@@ -24,7 +24,8 @@ returns c =
     let called = c .before .before .before .before .before .before in
     let made = called .before .before .before in
     let a = made .before .before .before .before .before .args in
-    reads-for (a .params .now) (a .reserved .now) (a .matrix .now) (a .work .now) (a .message .now) (made .params-of .ensures) (called .read .ensures)
+    reads-for (a .params .now) (a .reserved .now) (a .matrix .now) (a .work .now) (a .message .now)
+    (made .params-of .ensures) (called .read .ensures)
 
 pub jab-read-spec : {M : Type 1} → statement M
 jab-read-spec =

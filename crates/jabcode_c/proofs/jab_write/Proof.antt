@@ -24,7 +24,8 @@ returns c =
     let called = c .before .before .before .before .before .before in
     let made = called .before .before .before in
     let a = made .before .before .before .before .before .args in
-    writes-for (a .params .now) (a .reserved .now) (a .message .now) (a .matrix .now) (a .work .now) (made .params-of .ensures) (called .write .ensures)
+    writes-for (a .params .now) (a .reserved .now) (a .message .now) (a .matrix .now) (a .work .now)
+    (made .params-of .ensures) (called .write .ensures)
 
 pub jab-write-spec : {M : Type 1} → statement M
 jab-write-spec =
