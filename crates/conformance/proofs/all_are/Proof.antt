@@ -1,4 +1,5 @@
--- `conformance::all_are` meets its contract: the places up to `i` hold the value. Assumes nothing.
+-- `conformance::all_are` meets its contract. The invariant: the places up to i hold the value. What falls: the places not looked at yet.
+-- Assumes nothing.
 use Prim.Native.Nat.{_-_, _≤_}
 use mathlib.Core.Path.{_≡_, refl, sym}
 use mathlib.Core.Bool.{true≢false}
@@ -24,8 +25,11 @@ shared-slice-read-if1 c = search needs
 
 returns : tie.Need-returns Inv-loop μ-loop
 returns c =
-    let a = c .before .before .before .before .args in
-    (λ e. absurd (true≢false (sym e)), λ _. not-filled (a .bytes .now) (a .value) (c .before .before .before .loop .i) (omega arith) (λ e. omega arith))
+    let at-loop = c .before .before .before in
+    let a = at-loop .before .args in (
+      λ e. absurd (true≢false (sym e)),
+      λ _. not-filled (a .bytes .now) (a .value) (at-loop .loop .i) (omega arith) (λ e. omega arith),
+    )
 
 add-i : tie.Need-add-i Inv-loop μ-loop
 add-i c = search needs
@@ -39,8 +43,10 @@ loop-again c = (search needs, below-more _ _ (c .before .before .before .loop .i
 returns-2 : tie.Need-returns-2 Inv-loop μ-loop
 returns-2 c =
     let a = c .before .before .args in
-    let e : c .before .loop .i ≡ length (a .bytes .now) = omega arith in
-    (λ _. filled-all (a .bytes .now) (a .value) (length (a .bytes .now)) refl (rw e at (c .before .loop .inv .1)), λ e. absurd (true≢false e))
+    let e : c .before .loop .i ≡ length (a .bytes .now) = omega arith in (
+      λ _. filled-all (a .bytes .now) (a .value) (length (a .bytes .now)) refl (rw e at (c .before .loop .inv .1)),
+      λ e. absurd (true≢false e),
+    )
 
 pub all-are-spec : {M : Type 1} → statement M
 all-are-spec =

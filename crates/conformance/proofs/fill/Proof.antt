@@ -1,4 +1,5 @@
--- `conformance::fill` meets its contract: the places up to `i` hold 165. Assumes nothing.
+-- `conformance::fill` meets its contract. The invariant: the places up to i hold 165, and the buffer keeps its length. What falls: the
+-- places not filled yet. Assumes nothing.
 use Prim.Native.Nat.{_-_, _≤_}
 use mathlib.Core.Path.{_≡_}
 use native.Mathlib.Omega.{arith}
@@ -27,15 +28,19 @@ loop-less : tie.Need-loop-less Inv-loop μ-loop
 loop-less c = search needs
 
 loop-again : tie.Need-loop-again Inv-loop μ-loop
-loop-again c = (search needs, search needs, filled-next (c .before .loop .bytes) 165 (c .before .loop .i) (c .before .loop .inv .2) (omega arith))
+loop-again c =
+    let l = c .before .loop in
+    (search needs, search needs, filled-next (l .bytes) 165 (l .i) (l .inv .2) (omega arith))
 
 same-length : tie.Need-same-length Inv-loop μ-loop
 same-length c = search needs
 
 returns : tie.Need-returns Inv-loop μ-loop
 returns c =
-    let e : c .before .loop .i ≡ length (c .before .before .args .bytes .now) = omega arith in
-    filled-all (c .before .loop .bytes) 165 (length (c .before .before .args .bytes .now)) (c .before .loop .inv .1) (rw e at (c .before .loop .inv .2))
+    let l = c .before .loop in
+    let bytes = c .before .before .args .bytes .now in
+    let e : l .i ≡ length bytes = omega arith in
+    filled-all (l .bytes) 165 (length bytes) (l .inv .1) (rw e at (l .inv .2))
 
 pub fill-spec : {M : Type 1} → statement M
 fill-spec =

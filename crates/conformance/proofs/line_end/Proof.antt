@@ -1,4 +1,5 @@
--- `conformance::line_end` meets its contract: the place never passes the end of the input. Assumes nothing.
+-- `conformance::line_end` meets its contract. The invariant: the place lies from the line's start up to the end of the input. What falls:
+-- the bytes of the input behind it. Assumes nothing.
 use Prim.Native.Nat.{_-_, _≤_}
 use lib.ListN.{length}
 use borrow.Author.Needs.{needs}

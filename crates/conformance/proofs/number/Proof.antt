@@ -1,4 +1,5 @@
--- `conformance::number` meets its contract: what is read so far is at most the limit, and ten times that fits. Assumes nothing.
+-- `conformance::number` meets its contract. The invariant: what is read so far is at most the limit, so that ten times that fits. What
+-- falls: the bytes of the line not read yet. Assumes nothing.
 use Prim.Native.Nat.{_-_, _≤_}
 use mathlib.Core.Path.{_≡_}
 use lib.ListN.{length}

@@ -1,4 +1,5 @@
--- `conformance::print_bytes` is safe: the place stays inside the bytes. Assumes nothing.
+-- `conformance::print_bytes` is safe. The invariant: i is at most the number of the bytes. What falls: the bytes not printed yet.
+-- Assumes nothing.
 use Prim.Native.Nat.{_-_, _≤_}
 use lib.ListN.{length}
 use borrow.Author.Needs.{needs}

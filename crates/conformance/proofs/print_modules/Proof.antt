@@ -1,4 +1,5 @@
--- `conformance::print_modules` is safe: the place stays inside the matrix. Assumes nothing.
+-- `conformance::print_modules` is safe. The invariant: i is at most the number of the modules, and the matrix keeps its length. What falls:
+-- the modules not made digits yet. Assumes nothing.
 use Prim.Native.Nat.{_-_, _≤_}
 use mathlib.Core.Path.{_≡_}
 use lib.ListN.{length}

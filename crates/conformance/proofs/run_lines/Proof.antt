@@ -1,4 +1,5 @@
--- `conformance::run_lines` is safe: each line ends inside the input, and the next starts behind it. Assumes nothing.
+-- `conformance::run_lines` is safe: each line ends inside the input. The invariant: the next line starts at most one byte behind the input,
+-- and the four buffers keep their lengths. What falls: the bytes from there to one behind the input. Assumes nothing.
 use Prim.Native.Nat.{_+_, _-_, _≤_}
 use mathlib.Core.Path.{_≡_}
 use lib.ListN.{length}
@@ -7,7 +8,12 @@ use Rattle.conformance.proofs.run_lines.Statement.{statement}
 use Rattle.conformance.proofs.run_lines.Tie as tie
 
 abbrev Inv-loop : tie.InvT-loop
-Inv-loop input list₀ matrix₀ work₀ message₀ from₀ list matrix work message from = (from ≤ length input + 1) × (length list ≡ length list₀) × (length matrix ≡ length matrix₀) × (length work ≡ length work₀) × (length message ≡ length message₀)
+Inv-loop input list₀ matrix₀ work₀ message₀ from₀ list matrix work message from =
+    (from ≤ length input + 1)
+    × (length list ≡ length list₀)
+    × (length matrix ≡ length matrix₀)
+    × (length work ≡ length work₀)
+    × (length message ≡ length message₀)
 
 abbrev μ-loop : tie.MeasureT-loop
 μ-loop input list₀ matrix₀ work₀ message₀ from₀ list matrix work message from = length input + 1 - from

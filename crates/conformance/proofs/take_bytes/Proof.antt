@@ -1,4 +1,5 @@
--- `conformance::take_bytes` is safe: the place stays inside the bytes, and a number of at most 255 fits in one. Assumes nothing.
+-- `conformance::take_bytes` is safe: a number of at most 255 fits in a byte. The invariant: i is at most the number of the bytes, and there
+-- are as many as at the start. What falls: the bytes not stored yet. Assumes nothing.
 use Prim.Native.Nat.{_-_, _≤_}
 use mathlib.Core.Path.{_≡_}
 use lib.ListN.{length}

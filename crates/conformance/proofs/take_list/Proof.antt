@@ -1,4 +1,5 @@
--- `conformance::take_list` is safe: the place stays inside the list, and a number of at most 65,535 fits in an entry. Assumes nothing.
+-- `conformance::take_list` is safe: a number of at most 65,535 fits in an entry. The invariant: i is at most the list's length, which stays
+-- as it is. What falls: the numbers not stored yet. Assumes nothing.
 use Prim.Native.Nat.{_-_, _≤_}
 use mathlib.Core.Path.{_≡_}
 use lib.ListN.{length}
