@@ -1,4 +1,5 @@
--- `label_codec::as_digits` is safe: a digit fits a byte. Assumes nothing.
+-- `label_codec::as_digits` is safe: a digit fits a byte. The invariant: i is at most the matrix's length, which stays as it is. What falls:
+-- the modules not made digits yet. Assumes nothing.
 use Prim.Native.Nat.{_-_, _≤_}
 use mathlib.Core.Path.{_≡_}
 use native.Mathlib.Omega.{arith}

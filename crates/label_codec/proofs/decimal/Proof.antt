@@ -1,4 +1,4 @@
--- `label_codec::decimal` is safe: the number stays within 32 bits. Assumes nothing.
+-- `label_codec::decimal` is safe. The invariant: the number stays within 32 bits. What falls: the bytes not read yet. Assumes nothing.
 use Prim.Native.Nat.{_-_, _≤_}
 use lib.ListN.{length}
 use borrow.Author.Needs.{needs}

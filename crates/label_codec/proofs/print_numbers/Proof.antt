@@ -1,4 +1,5 @@
--- `label_codec::print_numbers` is safe: each index is inside the numbers. Assumes nothing.
+-- `label_codec::print_numbers` is safe. The invariant: i is at most the number of the numbers. What falls: the numbers not printed yet.
+-- Assumes nothing.
 use Prim.Native.Nat.{_-_, _≤_}
 use mathlib.Core.Path.{_≡_}
 use lib.ListN.{length}

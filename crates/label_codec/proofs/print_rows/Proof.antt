@@ -1,4 +1,5 @@
--- `label_codec::print_rows` is safe: a row ends inside the digits. Assumes nothing.
+-- `label_codec::print_rows` is safe: a row ends inside the digits. The invariant: the next row starts inside the digits or at their end.
+-- What falls: the digits not printed yet. Assumes nothing.
 use Prim.Native.Nat.{_-_, _≤_}
 use mathlib.Core.Path.{_≡_}
 use lib.ListN.{length}

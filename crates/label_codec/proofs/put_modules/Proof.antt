@@ -1,4 +1,5 @@
--- `label_codec::put_modules` is safe: the matrix never passes its buffer. Assumes nothing.
+-- `label_codec::put_modules` is safe. The invariant: the modules stored never pass the matrix's buffer, which keeps its length. What falls:
+-- the bytes of the text not read yet. Assumes nothing.
 use Prim.Native.Nat.{_-_, _≤_}
 use mathlib.Core.Path.{_≡_}
 use lib.ListN.{length}

@@ -1,4 +1,5 @@
--- `label_codec::put_palette` is safe: no more entries than colours passed. Assumes nothing.
+-- `label_codec::put_palette` is safe. The invariant: no more entries are stored, and no more columns passed, than colours are passed, and
+-- the list's buffer keeps its length. What falls: the colours not passed yet. Assumes nothing.
 use mathlib.Core.Path.{_≡_, ap}
 use Prim.Native.Nat.{_+_, _*_, _-_, _≤_}
 use mathlib.Core.Path.{_≡_}
@@ -10,7 +11,11 @@ use Rattle.label_codec.proofs.put_palette.Statement.{statement}
 use Rattle.label_codec.proofs.put_palette.Tie as tie
 
 abbrev Inv-loop : tie.InvT-loop
-Inv-loop list₀ at x y colours a b n₀ column₀ colour₀ list n column colour = (colour ≤ colours) × (n ≤ at + 3 * colour) × (column ≤ x + colour) × (length list ≡ length list₀)
+Inv-loop list₀ at x y colours a b n₀ column₀ colour₀ list n column colour =
+    (colour ≤ colours)
+    × (n ≤ at + 3 * colour)
+    × (column ≤ x + colour)
+    × (length list ≡ length list₀)
 
 abbrev μ-loop : tie.MeasureT-loop
 μ-loop list₀ at x y colours a b n₀ column₀ colour₀ list n column colour = colours - colour

@@ -1,4 +1,5 @@
--- `label_codec::read_modules` is safe and ends: the count of turns rises to its bound. Assumes nothing.
+-- `label_codec::read_modules` is safe and ends. The invariant: the modules stored never pass the matrix's buffer, and both buffers keep
+-- their lengths. What falls: the turns left up to the bound of their count. Assumes nothing.
 use Prim.Native.Nat.{_-_, _≤_}
 use mathlib.Core.Path.{_≡_}
 use lib.ListN.{length}

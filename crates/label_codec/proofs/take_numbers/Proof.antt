@@ -1,4 +1,5 @@
--- `label_codec::take_numbers` is safe: no more numbers than the list's buffer holds. Assumes nothing.
+-- `label_codec::take_numbers` is safe. The invariant: no more numbers are stored than the list's buffer holds, which keeps its length. What
+-- falls: the places left in it. Assumes nothing.
 use Prim.Native.Nat.{_-_, _≤_}
 use mathlib.Core.Path.{_≡_}
 use native.Mathlib.Omega.{arith}
