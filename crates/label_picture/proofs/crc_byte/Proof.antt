@@ -1,4 +1,5 @@
--- `label_picture::crc_byte` is safe and ends. Assumes nothing.
+-- `label_picture::crc_byte` is safe and ends. The invariant: i is at most 8. What falls: the bits of the byte left to take in.
+-- Assumes nothing.
 use Prim.Native.Nat.{_-_, _≤_}
 use borrow.Author.Needs.{needs}
 use Rattle.label_picture.proofs.crc_byte.Statement.{statement}

@@ -1,4 +1,5 @@
--- `label_picture::crc_bytes` is safe: each index is inside the bytes. Assumes nothing.
+-- `label_picture::crc_bytes` is safe. The invariant: i is at most the number of the bytes. What falls: the bytes not taken in yet.
+-- Assumes nothing.
 use Prim.Native.Nat.{_-_, _≤_}
 use lib.ListN.{length}
 use borrow.Author.Needs.{needs}

@@ -1,4 +1,5 @@
--- `label_picture::line_length` is safe: each index is inside the text. Assumes nothing.
+-- `label_picture::line_length` is safe. The invariant: n is at most the text's length. What falls: the bytes not looked at yet.
+-- Assumes nothing.
 use Prim.Native.Nat.{_-_, _≤_}
 use lib.ListN.{length}
 use borrow.Author.Needs.{needs}

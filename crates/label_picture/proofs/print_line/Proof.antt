@@ -1,4 +1,5 @@
--- `label_picture::print_line` is safe and ends: a line has 8 rows of pixels. Assumes nothing.
+-- `label_picture::print_line` is safe and ends. The invariant: at most the 8 rows of pixels of a line are printed. What falls: the rows not
+-- printed yet. Assumes nothing.
 use Prim.Native.Nat.{_-_, _≤_}
 use borrow.Author.Needs.{needs}
 use Rattle.label_picture.proofs.print_line.Statement.{statement}

@@ -1,4 +1,5 @@
--- `label_picture::print_lines` is safe: each line ends inside the text. Assumes nothing.
+-- `label_picture::print_lines` is safe: each line ends inside the text. The invariant: the next line starts at most one byte behind the
+-- text, and the pixels keep their number. What falls: the bytes from there to one behind the text. Assumes nothing.
 use Prim.Native.Nat.{_+_, _-_, _≤_}
 use mathlib.Core.Path.{_≡_}
 use lib.ListN.{length}

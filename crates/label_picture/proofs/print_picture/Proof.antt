@@ -29,7 +29,10 @@ side-requires : tie.Need-side-requires
 side-requires c κs = search needs
 
 side-requires-2 : tie.Need-side-requires-2
-side-requires-2 c κs = omega (arith, div-le-self (length (c .before .before .before .before .before .before .args .text .now) + 1) (c .before .before .before .line-length .result + 1))
+side-requires-2 c κs =
+    let line-length = c .before .before .before .line-length in
+    let text = c .before .before .before .before .before .before .args .text .now in
+    omega (arith, div-le-self (length text + 1) (line-length .result + 1))
 
 print-front-requires : tie.Need-print-front-requires
 print-front-requires c κs = search needs

@@ -1,4 +1,5 @@
--- `label_picture::print_quiet` is safe and ends: there are 4 white lines. Assumes nothing.
+-- `label_picture::print_quiet` is safe and ends. The invariant: at most the 4 white lines are printed, and the pixels keep their number.
+-- What falls: the white lines not printed yet. Assumes nothing.
 use Prim.Native.Nat.{_-_, _≤_}
 use mathlib.Core.Path.{_≡_}
 use lib.ListN.{length}

@@ -1,4 +1,5 @@
--- `label_picture::put_pixels` is safe: a store keeps the number of pixels. Assumes nothing.
+-- `label_picture::put_pixels` is safe. The invariant: x is at most the number of the pixels, which a store keeps. What falls: the pixels
+-- not stored yet. Assumes nothing.
 use Prim.Native.Nat.{_-_, _≤_}
 use mathlib.Core.Path.{_≡_}
 use native.Mathlib.Omega.{arith}
