@@ -142,10 +142,10 @@ pub grid-whole : (num den n : ℕ) → 0 < den → num * 2 ^ 149 ≡ n * den →
 unfolding nearestSingle
 grid-whole num den n pos e =
     let k : ℕ = size n - 24 in
+    let same = closest-same (n * den) (den * 2 ^ k) n (2 ^ k) (mul-pos pos (pow-pos k)) (pow-pos k) (mul-assoc n den (2 ^ k)) in
     ap (λ (x : ℕ). closest x (den * 2 ^ (size (x / den) - 24)) * 2 ^ (size (x / den) - 24)) e
     ∙ ap (λ (x : ℕ). closest (n * den) (den * 2 ^ (size x - 24)) * 2 ^ (size x - 24)) (mul-div-cancel n pos)
-    ∙ ap (λ (x : ℕ). x * 2 ^ k)
-    (closest-same (n * den) (den * 2 ^ k) n (2 ^ k) (mul-pos pos (pow-pos k)) (pow-pos k) (mul-assoc n den (2 ^ k)))
+    ∙ ap (λ (x : ℕ). x * 2 ^ k) same
 
 -- ---- rounding by a carry
 
