@@ -92,7 +92,9 @@ mul-t20 : tie.Need-mul-t20
 mul-t20 c = search needs
 
 add-t21 : tie.Need-add-t21
-add-t21 c = omega (arith, products (c .before .before .before) .matrix, c-most (c .before .before .before .before .before))
+add-t21 c =
+    let wide3 = c .before .before .before in
+    omega (arith, products wide3 .matrix, c-most (wide3 .before .before))
 
 returns : tie.Need-returns
 returns c =
