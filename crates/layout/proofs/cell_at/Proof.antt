@@ -24,9 +24,9 @@ colour-of-requires c κs = search needs
 narrow-requires : tie.Need-narrow-requires
 narrow-requires c κs =
     let first-entry = c .before .before .first-entry in
-    let entry = c .before .before .before .before in
-    let a = entry .args in
-    let byte = entry-byte (a .p) (a .list .now) (entry .pre .0) (entry .pre .1) (first-entry .result) (c .before .if1 .taken) in
+    let start = c .before .before .before .before in
+    let a = start .args in
+    let byte = entry-byte (a .p) (a .list .now) (start .pre .0) (start .pre .1) (first-entry .result) (c .before .if1 .taken) in
     omega (arith, c .colour-of .ensures .0, byte)
 
 returns : tie.Need-returns

@@ -11,15 +11,20 @@ use Rattle.layout.proofs.fill_module.Statement.{statement}
 use Rattle.layout.proofs.fill_module.Tie as tie
 
 index-of-requires : tie.Need-index-of-requires
-index-of-requires c κs = module-inside (c .before .before .before .pre .0) (c .before .before .before .pre .1)
+index-of-requires c κs =
+    let pre = c .before .before .before .pre in
+    module-inside (pre .0) (pre .1)
 
 mask-at-requires : tie.Need-mask-at-requires
 mask-at-requires c κs =
-    let m = mask-legal (c .before .before .before .before .pre .0) (c .before .before .before .before .pre .1) in
+    let pre = c .before .before .before .before .pre in
+    let m = mask-legal (pre .0) (pre .1) in
     (m .0, omega (arith, m .1, m .2), omega (arith, m .1, m .2))
 
 cell-at-requires : tie.Need-cell-at-requires
-cell-at-requires c κs = cell-legal (c .before .before .before .before .before .pre .0) (c .before .before .before .before .before .pre .1)
+cell-at-requires c κs =
+    let pre = c .before .before .before .before .before .pre in
+    cell-legal (pre .0) (pre .1)
 
 enum-known-cell : tie.Need-enum-known-cell
 enum-known-cell c = search needs

@@ -56,7 +56,10 @@ loop-again c =
     (omega (arith, columns-of .ensures .0), sample-column .ensures .0, sample-column .ensures .1)
 
 same-length : tie.Need-same-length Inv-loop μ-loop
-same-length c = c .before .loop .inv .2 .whole ∙ sym (c .before .before .before .before .before .before .before .pre .all-bits)
+same-length c =
+    let at-loop = c .before in
+    let start = at-loop .before .before .before .before .before .before in
+    at-loop .loop .inv .2 .whole ∙ sym (start .pre .all-bits)
 
 returns : tie.Need-returns Inv-loop μ-loop
 returns c =

@@ -13,10 +13,14 @@ use Rattle.layout.proofs.sample_module.Statement.{statement}
 use Rattle.layout.proofs.sample_module.Tie as tie
 
 index-of-requires : tie.Need-index-of-requires
-index-of-requires c κs = module-inside (c .before .before .before .pre .0) (c .before .before .before .pre .1)
+index-of-requires c κs =
+    let pre = c .before .before .before .pre in
+    module-inside (pre .0) (pre .1)
 
 cell-at-requires : tie.Need-cell-at-requires
-cell-at-requires c κs = cell-legal (c .before .before .before .before .pre .0) (c .before .before .before .before .pre .1)
+cell-at-requires c κs =
+    let pre = c .before .before .before .before .pre in
+    cell-legal (pre .0) (pre .1)
 
 enum-told : tie.Need-enum-told
 enum-told c = search needs
