@@ -112,8 +112,8 @@ digits-all [] m n e = e
 digits-all (b ∷ bs) m n e = go (byte b) (digits-all bs)
   where
     go : Byte b
-        → ((m n : ℕ) → min m 33 ≡ min n 33
-        → min (scanNumber (scannedAll (Digits m) bs)) 33 ≡ min (cond (restOfNumeral bs) (numeralValue n bs) 0) 33)
+        → ((m n : ℕ) → min m 33 ≡ min n 33 → min (scanNumber (scannedAll (Digits m) bs)) 33
+        ≡ min (cond (restOfNumeral bs) (numeralValue n bs) 0) 33)
         → min (scanNumber (scannedAll (scanned (Digits m) b) bs)) 33
         ≡ min (cond (restOfNumeral (b ∷ bs)) (numeralValue n (b ∷ bs)) 0) 33
     go (digit d x y) ih = rw (y, x, d) (ih (grown m (b - 48)) (10 * n + (b - 48)) (grown-same m n (b - 48) e))

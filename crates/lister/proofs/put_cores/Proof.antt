@@ -1,4 +1,4 @@
--- `lister::put_cores` meets its contract. The invariant: storing the coordinates from the i-th on, each behind a space, gives what storing
+-- `lister::put_cores` meets its contract. The invariant: storing the coordinates from number i on, each behind a space, gives what storing
 -- all but the first gives. What falls: the coordinates not stored yet. Assumes nothing.
 use Prim.Native.Nat.{_≤_, _<_, _-_}
 use mathlib.Core.Path.{_≡_, _∙_, ap}

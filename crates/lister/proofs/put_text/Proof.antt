@@ -16,7 +16,9 @@ abbrev μ-loop : tie.MeasureT-loop
 μ-loop out₀ text at₀ out at = length text - at
 
 loop-holds : tie.Need-loop-holds Inv-loop μ-loop
-loop-holds c = (omega arith, left-all (c .before .before .args .text .now) 0 (c .before .before .args .out .now))
+loop-holds c =
+    let a = c .before .before .args in
+    (omega arith, left-all (a .text .now) 0 (a .out .now))
 
 shared-slice-read-put : tie.Need-shared-slice-read-put Inv-loop μ-loop
 shared-slice-read-put c = omega arith
