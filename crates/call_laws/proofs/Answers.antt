@@ -1,10 +1,9 @@
 -- Demand 1 about the definitions: document 01's tables of numbers give the answers of a write and a read; which numbers, places, lengths
 -- and counts an answer can have; and what a call leaves in the buffers.
 -- Assumes nothing.
-use Prim.Native.Nat.{ℕ, suc, _-_, _≤_}
+use Prim.Native.Nat.{ℕ, _-_, _≤_}
 use mathlib.Core.Path.{_≡_, refl, sym, ap, _∙_}
 use mathlib.Core.Bool.{Bool, true, false, not, _&&_, _||_}
-use mathlib.Core.Logic.{_⊎_, inl, inr}
 use mathlib.Core.List.{List, [], _∷_, _++_}
 use native.Mathlib.Nat.{zero-add}
 use native.Mathlib.Omega.{arith}
@@ -31,7 +30,7 @@ use Rattle.calls.specs.Tests.{Row, firstOf, stuckWord, sizeRows, frontRows, wri
 use Rattle.calls.specs.Write.{writeAnswer, matrixAfterWrite, workAfter}
 use Rattle.calls.specs.Read.{messageInAccepted, messageIn, frontAfter, answerFromAccepted}
 use Rattle.calls.specs.Read.{countsOf, answerFromReceived, readAnswer, readRows}
-use Rattle.call_laws.proofs.Tests.{Each, each-all, each-computed, each-map, numbersOf, first-append, first-map, first-keeps}
+use Rattle.call_laws.proofs.Tests.{each-all, each-computed, each-map, numbersOf, first-append, first-map, first-keeps}
 use Rattle.call_laws.proofs.Stages.{accepted-table, read-keeps}
 
 -- ---- document 01, "Numbers returned"

@@ -11,7 +11,6 @@ use borrow.Author.Tests.{ltb-false, le-ltb, not-true}
 use Rattle.symbology.specs.declared.Params.{Params}
 use Rattle.symbology.specs.declared.Sizes.{Sizes}
 use Rattle.symbology.specs.Ranges.{allHold, has}
-use Rattle.symbology.specs.Bits.{anyOne}
 use Rattle.symbology.specs.Capacity.{sizesFor}
 use Rattle.symbology.specs.Rule.{lastWord, stuck}
 use Rattle.symbology.specs.Code.{checksFor, messageBitsFor}

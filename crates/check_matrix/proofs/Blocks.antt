@@ -4,13 +4,13 @@ use Prim.Native.Nat.{ℕ, suc, _+_, _-_, _*_, _/_, _^_, _%_, _≤_, _<_}
 use mathlib.Core.Path.{_≡_, sym, ap, ap₂, _∙_}
 use mathlib.Core.Logic.{_⊎_, inl, inr, ⊎-elim}
 use mathlib.Core.Bool.{Bool, false, xor}
-use mathlib.Core.List.{List}
+use mathlib.Core.List.{List, [], _∷_}
 use native.Mathlib.Nat.{zero-mul, suc-mul, mul-comm, mul-le-mul-right, zero-div, div-lt-iff-lt-mul}
 use native.Mathlib.Numerals.{add-one}
 use native.Mathlib.Decide.{ℕ-discrete, decLt}
 use native.Mathlib.Omega.{arith}
 use lib.Dec.{eqb}
-use lib.ListN.{getD, List·getD-eq-default}
+use lib.ListN.{length, getD, List·getD-eq-default}
 use borrow.Author.Tests.{eq-eqb, ne-eqb}
 use Rattle.symbology.specs.Generator.{stateAfter}
 use Rattle.symbology.specs.Shuffle.{shuffled}
@@ -20,27 +20,23 @@ use Rattle.laws.proofs.Generator.{after-add}
 use Rattle.laws.proofs.Matrix.{order-lt, block-row}
 use Rattle.laws.proofs.Shuffle.{shuffled-every}
 use Rattle.lent.specs.declared.Areas.{Areas}
-use Rattle.lent.specs.Buffer.{numbersAt, ChangedIn, ChangedInBoth, Cleared, CountedUp, Laid}
-use Rattle.lent.proofs.Buffer.{length-numbers, numbers-same, both-none, both-then, both-front, both-back}
+use Rattle.lent.specs.Changes.{Changed}
+use Rattle.lent.specs.Buffer.{numbersAt, Cleared, CountedUp}
+use Rattle.lent.specs.Work.{rowsSpan, numbersSpan, Laid}
+use Rattle.lent.proofs.Buffer.{length-numbers, numbers-same}
+use Rattle.lent.proofs.Changes.{changed-none, changed-wider, changed-then}
 use Rattle.dense.specs.Dense.{denseBits}
 use Rattle.dense.proofs.Dense.{row-gap, column-inside, rows-same}
+use Rattle.checks.specs.Checks.{standsIn}
 use Rattle.check_matrix.specs.Build.{BlockFits, BlockTurned, Built}
 
 -- ---- places that stay
 
--- Only the dense rows and the numbers are changed.
-abbrev RowsAndNumbers : Areas → List ℕ → List ℕ → Type 0
-RowsAndNumbers a = ChangedInBoth (a .checks * a .stride) (a .numbers) (a .numbers + 2 * a .gross)
-
 module _ {a : Areas} {room : ℕ} (l : Laid a room) where
-  -- the numbers lie behind the rows
-  rows-first : a .checks * a .stride ≤ a .numbers
-  rows-first = omega (arith, l .rows-end, l .marks-end, l .word-end)
-
   -- bits of the rows stay where only numbers are changed
-  bits-same : {before after : List ℕ} → ChangedIn (a .numbers) (a .numbers + 2 * a .gross) before after
+  bits-same : {before after : List ℕ} → Changed (numbersSpan a ∷ []) before after
       → (i : ℕ) → i < a .checks → (j : ℕ) → j / 8 < a .stride → denseBits after (a .stride) i j ≡ denseBits before (a .stride) i j
-  bits-same {before} {after} c i h j g = rows-same before after (a .stride) (a .checks) (a .numbers) rows-first (c .front) i h j g
+  bits-same {before} {after} c = rows-same before after (a .stride) (a .checks) (λ q h. c .kept q (omega arith))
 
   -- the bits of cleared rows
   bits-cleared : {before after : List ℕ} → Cleared 0 (a .checks * a .stride) before after
@@ -77,16 +73,18 @@ pub record Sized (a : Areas) (t wc wr room : ℕ) : Type 0 where
   pub rows : a .checks ≡ t * wc
   pub some : 0 < wr
 
-pub sized : {a : Areas} {room : ℕ} (t wc wr : ℕ) → Laid a room × (a .gross ≡ t * wr) × (a .checks ≡ t * wc) × (0 < wr) → Sized a t wc wr room
+pub sized : {a : Areas} {room : ℕ} (t wc wr : ℕ) → Laid a room × (a .gross ≡ t * wr) × (a .checks ≡ t * wc) × (0 < wr)
+    → Sized a t wc wr room
 sized t wc wr h = record { laid = h .0; columns = h .1; rows = h .2; some = h .3 }
 
 -- The rows of the first blocks are those of A, the others are 0; the numbers are the column order of the last of these blocks, and
 -- the state is that behind its draws.
 pub record BlocksBuilt (a : Areas) (t wr block state : ℕ) (before after : List ℕ) : Type 0 where
-  pub changed : RowsAndNumbers a before after
+  pub changed : Changed (rowsSpan a ∷ numbersSpan a ∷ []) before after
   pub states : state ≡ stateAfter (block * a .gross) matrixSeed
   pub order : numbersAt after (a .numbers) (a .gross) ≡ columnOrder matrixSeed (a .gross) block
-  pub done : (i : ℕ) → i < block * t → i < a .checks → (j : ℕ) → j < a .gross → denseBits after (a .stride) i j ≡ matrixA matrixSeed t wr i j
+  pub done : (i : ℕ) → i < block * t → i < a .checks → (j : ℕ) → j < a .gross
+      → denseBits after (a .stride) i j ≡ matrixA matrixSeed t wr i j
   pub rest : (i : ℕ) → block * t ≤ i → i < a .checks → (j : ℕ) → j < a .gross → denseBits after (a .stride) i j ≡ false
   pub past : (i : ℕ) → i < a .checks → (j : ℕ) → a .gross ≤ j → j / 8 < a .stride → denseBits after (a .stride) i j ≡ false
 
@@ -96,7 +94,7 @@ pub blocks-start : {a : Areas} {room : ℕ} (t wr : ℕ) {entry cleared counted 
 unfolding stateAfter columnOrder
 blocks-start {a} t wr {counted = counted} l c n =
     record {
-      changed = both-none (a .checks * a .stride) (a .numbers) (a .numbers + 2 * a .gross) counted;
+      changed = changed-none (rowsSpan a ∷ numbersSpan a ∷ []) counted;
       states = sym (ap (λ (k : ℕ). stateAfter k matrixSeed) (zero-mul (a .gross)));
       order = n .counted;
       done = λ i h. absurd (omega (arith, zero-mul t));
@@ -120,7 +118,8 @@ module _ {a : Areas} {t wc wr room block state : ℕ} {before work : List ℕ} (
       elim (decLt i (a .gross)) [
         | yes h ↦ rw (b .order) (order-lt matrixSeed (a .gross) block i h)
         | no h ↦
-            rw (List·getD-eq-default (numbersAt work (a .numbers) (a .gross)) 0 {n = i} (omega (arith, length-numbers work (a .numbers) (a .gross)))) some
+            let past : length (numbersAt work (a .numbers) (a .gross)) ≤ i = omega (arith, length-numbers work (a .numbers) (a .gross)) in
+            rw (List·getD-eq-default (numbersAt work (a .numbers) (a .gross)) 0 {n = i} past) some
       ]
 
   -- the numbers, shuffled from any state, lead to t rows
@@ -132,9 +131,9 @@ module _ {a : Areas} {t wc wr room block state : ℕ} {before work : List ℕ} (
         some = s .some;
         inside = λ j g.
             rw e
-            (let each = shuffled-every 0 (λ (c : ℕ). c < a .gross) from (numbersAt work (a .numbers) (a .gross)) (number-lt (omega arith)) j in
-            let low : getD (shuffled 0 from (numbersAt work (a .numbers) (a .gross))) j 0 / wr < t =
-            div-lt-iff-lt-mul (s .some) .1 (omega (arith, s .columns, each)) in
+            (let numbers : List ℕ = numbersAt work (a .numbers) (a .gross) in
+            let each = shuffled-every 0 (λ (c : ℕ). c < a .gross) from numbers (number-lt (omega arith)) j in
+            let low : getD (shuffled 0 from numbers) j 0 / wr < t = div-lt-iff-lt-mul (s .some) .1 (omega (arith, s .columns, each)) in
             omega arith);
       }
 
@@ -145,14 +144,15 @@ module _ {a : Areas} {t wc wr room block state : ℕ} {before work : List ℕ} (
     order-next = e ∙ ap₂ (shuffled 0) (b .states) (b .order)
 
     -- the block is turned
-    module _ {later : List ℕ} (m : ChangedIn (a .numbers) (a .numbers + 2 * a .gross) work mixed)
+    module _ {later : List ℕ} (m : Changed (numbersSpan a ∷ []) work mixed)
         (d : BlockTurned a wr (block * t) mixed later) where
       bits-next : (i : ℕ) → i < a .checks → (j : ℕ) → j < a .gross
           → denseBits later (a .stride) i j
           ≡ xor (denseBits work (a .stride) i j) (eqb i (block * t + getD (columnOrder matrixSeed (a .gross) (suc block)) j 0 / wr))
       bits-next i h j g =
           d .bits i h j g
-          ∙ ap₂ (λ (x : Bool) (o : List ℕ). xor x (eqb i (block * t + getD o j 0 / wr))) (bits-same (s .laid) m i h j (column-inside (s .laid) j g)) order-next
+          ∙ ap₂ (λ (x : Bool) (o : List ℕ). xor x (eqb i (block * t + getD o j 0 / wr)))
+          (bits-same (s .laid) m i h j (column-inside (s .laid) j g)) order-next
 
       -- rows outside the block stay
       bits-outside : (i : ℕ) → i < a .checks → (j : ℕ) → j < a .gross → (i < block * t) ⊎ (block * t + t ≤ i)
@@ -161,7 +161,8 @@ module _ {a : Areas} {t wc wr room block state : ℕ} {before work : List ℕ} (
           let q : ℕ = getD (columnOrder matrixSeed (a .gross) (suc block)) j 0 / wr in
           let low : q < t = quotient-lt (suc block) j g in
           bits-next i h j g
-          ∙ ap (xor (denseBits work (a .stride) i j)) (ne-eqb i (block * t + q) (λ (f : i ≡ block * t + q). ⊎-elim (λ x. omega arith) (λ x. omega arith) o))
+          ∙ ap (xor (denseBits work (a .stride) i j))
+          (ne-eqb i (block * t + q) (λ (f : i ≡ block * t + q). ⊎-elim (λ x. omega arith) (λ x. omega arith) o))
           ∙ xor-none (denseBits work (a .stride) i j)
 
       -- rows of the block are those of A
@@ -178,14 +179,15 @@ module _ {a : Areas} {t wc wr room block state : ℕ} {before work : List ℕ} (
           let more : (block + 1) * t ≡ block * t + t = ap (λ (k : ℕ). k * t) (add-one block) ∙ suc-mul block t in
           record {
             changed =
-                both-front (both-back (b .changed) m (omega arith) (omega arith)) (d .changed) (omega arith) (omega (arith, rows-first (s .laid)));
+                changed-then (changed-then (b .changed) (changed-wider m (λ q o. (o .1 .0, tt))))
+                (changed-wider (d .changed) (λ q o. (o .0, tt)));
             states =
                 f
                 ∙ ap (stateAfter (a .gross)) (b .states)
                 ∙ sym (after-add (block * a .gross) (a .gross) matrixSeed)
                 ∙ ap (λ (k : ℕ). stateAfter k matrixSeed) (sym (ap (λ (k : ℕ). k * a .gross) (add-one block) ∙ suc-mul block (a .gross)));
             order =
-                numbers-same mixed later (a .numbers) (a .gross) (λ i h g. d .changed .behind i (omega (arith, rows-first (s .laid))))
+                numbers-same mixed later (a .numbers) (a .gross) (λ i h g. d .changed .kept i (omega (arith, s .laid)))
                 ∙ order-next
                 ∙ ap (columnOrder matrixSeed (a .gross)) (sym (add-one block));
             done = λ i k h j g.
@@ -198,19 +200,19 @@ module _ {a : Areas} {t wc wr room block state : ℕ} {before work : List ℕ} (
           }
 
   -- the last block is built
-  pub blocks-done : {entry cleared : List ℕ} → Cleared 0 (a .checks * a .stride) entry cleared → CountedUp (a .numbers) (a .gross) cleared before
-      → block ≡ wc → Built a t wc wr entry work
+  pub blocks-done : {entry cleared : List ℕ} → Cleared 0 (a .checks * a .stride) entry cleared
+      → CountedUp (a .numbers) (a .gross) cleared before → block ≡ wc → Built a t wc wr entry work
+  unfolding standsIn
   blocks-done {entry} c n e =
       let all : wc * t ≤ block * t = mul-le-mul-right t (omega arith) in
       record {
-        changed =
-            both-then
-            (both-back
-            (both-front (both-none (a .checks * a .stride) (a .numbers) (a .numbers + 2 * a .gross) entry) (c .changed) (omega arith)
-            (omega (arith, rows-first (s .laid))))
-            (n .changed) (omega arith) (omega arith))
-            (b .changed);
-        bits = λ i k j g. b .done i (omega (arith, s .rows, mul-comm t wc)) k j g;
+        built = record {
+          changed =
+              changed-then
+              (changed-then (changed-wider (c .changed) (λ q o. (o .0, tt))) (changed-wider (n .changed) (λ q o. (o .1 .0, tt))))
+              (b .changed);
+          holds = λ i k j g. b .done i (omega (arith, s .rows, mul-comm t wc)) k j g;
+        };
         past = b .past;
         order = b .order ∙ ap (columnOrder matrixSeed (a .gross)) e;
       }

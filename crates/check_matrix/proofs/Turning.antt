@@ -3,7 +3,7 @@
 use Prim.Native.Nat.{ℕ, _+_, _*_, _/_, _≤_, _<_}
 use mathlib.Core.Path.{_≡_, refl, sym, ap, ap₂, _∙_}
 use mathlib.Core.Bool.{Bool, _&&_, xor, and-true, and-false}
-use mathlib.Core.List.{List}
+use mathlib.Core.List.{List, [], _∷_}
 use native.Mathlib.Decide.{ℕ-discrete, decLt}
 use native.Mathlib.Omega.{arith}
 use lib.Dec.{eqb, ltb}
@@ -11,10 +11,14 @@ use lib.ListN.{length, getD}
 use borrow.Author.Tests.{eq-eqb, ne-eqb, lt-ltb, le-ltb}
 use Rattle.laws.proofs.Gf2.{xor-none}
 use Rattle.lent.specs.declared.Areas.{Areas}
-use Rattle.lent.specs.Buffer.{numberAt, numbersAt, ChangedIn, Laid}
-use Rattle.lent.proofs.Buffer.{numbers-at, number-same, changed-none, changed-then}
+use Rattle.lent.specs.Changes.{Changed}
+use Rattle.lent.specs.Buffer.{numberAt, numbersAt}
+use Rattle.lent.specs.Work.{rowsSpan, Laid}
+use Rattle.lent.proofs.Buffer.{numbers-at, number-same}
+use Rattle.lent.proofs.Changes.{changed-none, changed-wider, changed-then, outside-in}
+use Rattle.lent.proofs.Work.{marks-inside}
 use Rattle.dense.specs.Dense.{denseBits, Turned}
-use Rattle.dense.proofs.Dense.{row-gap, column-inside, bit-inside, marks-inside}
+use Rattle.dense.proofs.Dense.{row-gap, column-inside, bit-inside}
 use Rattle.check_matrix.specs.Build.{BlockFits, BlockTurned}
 
 -- the row in which the block has its 1 of a column
@@ -24,7 +28,7 @@ oneRow a wr first xs c = first + getD (numbersAt xs (a .numbers) (a .gross)) c 0
 -- the bits of the columns below j are turned
 pub record TurningBlock (a : Areas) (wr first j : ℕ) (before after : List ℕ) : Type 0 where
   pub inside : j ≤ a .gross
-  pub changed : ChangedIn 0 (a .checks * a .stride) before after
+  pub changed : Changed (rowsSpan a ∷ []) before after
   pub bits : (i c : ℕ)
       → c < a .gross
       → denseBits after (a .stride) i c ≡ xor (denseBits before (a .stride) i c) (ltb c j && eqb i (oneRow a wr first before c))
@@ -34,7 +38,7 @@ pub turning-start : (a : Areas) (wr first : ℕ) (xs : List ℕ) → TurningBloc
 turning-start a wr first xs =
     record {
       inside = omega arith;
-      changed = changed-none 0 (a .checks * a .stride) xs;
+      changed = changed-none (rowsSpan a ∷ []) xs;
       bits = λ i c h.
           sym (ap (λ (t : Bool). xor (denseBits xs (a .stride) i c) (t && eqb i (oneRow a wr first xs c))) (le-ltb c 0 (omega arith))
           ∙ xor-none (denseBits xs (a .stride) i c));
@@ -55,8 +59,7 @@ module _ {a : Areas} {wr first j : ℕ} {before after : List ℕ} {room : ℕ} (
   turning-number : j < a .gross → numberAt after (a .numbers + 2 * j) ≡ getD (numbersAt before (a .numbers) (a .gross)) j 0
   turning-number h =
       let at : ℕ = a .numbers + 2 * j in
-      let behind : a .checks * a .stride ≤ a .numbers = omega (arith, l .rows-end, l .marks-end, l .word-end) in
-      number-same before after at (r .changed .behind at (omega arith)) (r .changed .behind (at + 1) (omega arith))
+      number-same before after at (r .changed .kept at (omega arith)) (r .changed .kept (at + 1) (omega arith))
       ∙ sym (numbers-at before (a .numbers) (a .gross) j h)
 
   -- the row of the next bit is one of the matrix
@@ -76,28 +79,32 @@ module _ {a : Areas} {wr first j : ℕ} {before after : List ℕ} {room : ℕ} (
   turning-next {v} {later} h e t =
       let stride : ℕ = a .stride in
       let order : ℕ → ℕ = oneRow a wr first before in
-      let same : first + v / wr ≡ order j = ap (λ (x : ℕ). first + x / wr) (e ∙ turning-number h) in
+      let row : ℕ = first + v / wr in
+      let same : row ≡ order j = ap (λ (x : ℕ). first + x / wr) (e ∙ turning-number h) in
       record {
         inside = omega arith;
-        changed = changed-then (r .changed) (t .changed) (omega arith) (row-gap (first + v / wr) (a .checks) stride (turning-row h e));
+        changed =
+            let end : row * stride + stride ≤ a .checks * stride = row-gap row (a .checks) stride (turning-row h e) in
+            changed-then (r .changed)
+            (changed-wider (t .changed) (λ q o. (outside-in (row * stride) (row * stride + stride) (omega arith) end (o .0), tt)));
         bits = λ i c g.
             let was : Bool = denseBits before stride i c in
             t .bits i c (column-inside l c g)
-            ∙ ap (λ (b : Bool). xor b (eqb i (first + v / wr) && eqb c j)) (r .bits i c g)
+            ∙ ap (λ (b : Bool). xor b (eqb i row && eqb c j)) (r .bits i c g)
             ∙ elim (ℕ-discrete c j) [
               | yes s ↦
-                  ap₂ (λ (x y : Bool). xor (xor was (x && eqb i (order c))) (eqb i (first + v / wr) && y)) (le-ltb c j (omega arith)) (eq-eqb c j s)
-                  ∙ ap₂ xor (xor-none was) (and-true (eqb i (first + v / wr)) ∙ ap (λ (x : ℕ). eqb i x) (same ∙ ap order (sym s)))
+                  ap₂ (λ (x y : Bool). xor (xor was (x && eqb i (order c))) (eqb i row && y)) (le-ltb c j (omega arith)) (eq-eqb c j s)
+                  ∙ ap₂ xor (xor-none was) (and-true (eqb i row) ∙ ap (λ (x : ℕ). eqb i x) (same ∙ ap order (sym s)))
                   ∙ sym (ap (λ (x : Bool). xor was (x && eqb i (order c))) (lt-ltb c (j + 1) (omega arith)))
               | no s ↦
-                  ap₂ (λ (x y : Bool). xor (xor was (x && eqb i (order c))) (eqb i (first + v / wr) && y)) (below-other c j s) (ne-eqb c j s)
-                  ∙ ap (xor (xor was (ltb c (j + 1) && eqb i (order c)))) (and-false (eqb i (first + v / wr)))
+                  ap₂ (λ (x y : Bool). xor (xor was (x && eqb i (order c))) (eqb i row && y)) (below-other c j s) (ne-eqb c j s)
+                  ∙ ap (xor (xor was (ltb c (j + 1) && eqb i (order c)))) (and-false (eqb i row))
                   ∙ xor-none (xor was (ltb c (j + 1) && eqb i (order c)))
             ];
         past = λ i c g k.
             t .bits i c k
-            ∙ ap (λ (b : Bool). xor (denseBits after stride i c) (eqb i (first + v / wr) && b)) (ne-eqb c j (λ s. omega arith))
-            ∙ ap (xor (denseBits after stride i c)) (and-false (eqb i (first + v / wr)))
+            ∙ ap (λ (b : Bool). xor (denseBits after stride i c) (eqb i row && b)) (ne-eqb c j (λ s. omega arith))
+            ∙ ap (xor (denseBits after stride i c)) (and-false (eqb i row))
             ∙ xor-none (denseBits after stride i c)
             ∙ r .past i c g k;
       }

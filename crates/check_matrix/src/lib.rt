@@ -4,7 +4,7 @@ use lent::Areas;
 ghost use Prim.Native.Nat.{_*_, _<_};
 ghost use mathlib.Core.Path.{_≡_};
 ghost use lib.ListN.{length};
-ghost use Rattle.lent.specs.Buffer.{Laid};
+ghost use Rattle.lent.specs.Work.{Laid};
 ghost use Rattle.check_matrix.specs.Build.{BlockFits, BlockTurned, Built};
 
 // Turns the ones of the block that begins with row `first`: for each column j the bit in row `first` + r,

@@ -6,29 +6,32 @@
 // The work buffer has 53,964 bytes, document 01's limit for programs.
 use lent::Areas;
 use libc::STDOUT_FILENO;
+use symbology::Sizes;
 ghost use Prim.Native.Nat.{_*_, _≤_, _<_};
 ghost use mathlib.Core.Path.{_≡_};
 ghost use lib.ListN.{length};
-ghost use Rattle.lent.specs.Buffer.{Laid};
+ghost use Rattle.lent.specs.Work.{Laid, CodeSizes};
 
 fn print_line(n: usize) {
     io::print_decimal(STDOUT_FILENO, n as u64);
     io::write_all(STDOUT_FILENO, b"\n");
 }
 
-// The areas of a work buffer for 1,047 bits with wc 3 and wr 9.
-fn areas() -> Areas
-    ensures { λ r. ⌜ Laid r 53964 × (r .gross ≡ 116 * 9) × (r .checks ≡ 116 * 3) ⌝ }
+// The sizes of a primary symbol of side-version 1 with 8 colours, 24 entries, wc 3 and wr 9: 1,047 bits.
+fn known_sizes() -> Sizes
+    ensures { λ r. ⌜ CodeSizes r × (r .work ≡ 53964) × (r .gross ≡ 116 * 9) × (r .checks ≡ 116 * 3) ⌝ }
 {
-    Areas {
-        checks: 348,
+    Sizes {
+        columns: 21,
+        rows: 21,
+        depth: 3,
+        capacity: 1047,
+        wr: 9,
+        block: 116,
         gross: 1044,
+        checks: 348,
         net: 696,
-        stride: 131,
-        marks: 45719,
-        word: 46067,
-        numbers: 47114,
-        message: 49202,
+        work: 53964,
     }
 }
 
@@ -48,7 +51,7 @@ fn print_row(work: &[u8], a: Areas, row: usize)
 fn print_rows(work: &mut [u8])
     requires { ⌜ length (now work) ≡ 53964 ⌝ }
 {
-    let a = areas();
+    let a = lent::areas_for(known_sizes());
     check_matrix::build(work, a, 116, 3, 9);
     print_row(work, a, 0);
     print_row(work, a, 116);

@@ -3,7 +3,7 @@
 use Prim.Native.Nat.{ℕ, _+_, _*_, _≤_, _<_}
 use mathlib.Core.Path.{_≡_, sym, ap, _∙_}
 use mathlib.Core.Bool.{true, false, not}
-use mathlib.Core.List.{List}
+use mathlib.Core.List.{List, [], _∷_}
 use native.Mathlib.Decide.{decLt}
 use native.Mathlib.Omega.{arith}
 use lib.Dec.{leb, ltb}
@@ -14,7 +14,8 @@ use Rattle.symbology.specs.Matrix.{BitMatrix}
 use Rattle.symbology.specs.Codeword.{isCheckColumn, messageColumns}
 use Rattle.laws.proofs.Ranges.{those-ext}
 use Rattle.lent.specs.declared.Areas.{Areas}
-use Rattle.lent.specs.Buffer.{ChangedIn, Laid}
+use Rattle.lent.specs.Changes.{Changed}
+use Rattle.lent.specs.Work.{wordRowSpan, wordSpan, Laid}
 use Rattle.lent.proofs.Buffer.{number-same}
 use Rattle.dense.specs.Dense.{denseBits}
 use Rattle.dense.proofs.Dense.{rows-kept}
@@ -47,25 +48,26 @@ module _ (a : Areas) (m : BitMatrix) (work : List ℕ) (e : EliminatedFrom a m 0
   -- After an elimination the row of a check column is 0 behind it.
   pub rows-end : RowsEnd a work
   rows-end c d h z l g =
-      let check : isCheckColumn (a .checks) (a .gross) m c ≡ true = not-false (isCheckColumn (a .checks) (a .gross) m c) (sym (message-is c h) ∙ z) in
+      let check : isCheckColumn (a .checks) (a .gross) m c ≡ true =
+      not-false (isCheckColumn (a .checks) (a .gross) m c) (sym (message-is c h) ∙ z) in
       e .reduced .high c (omega arith, h, check) d l g
 
--- ---- a buffer that is changed behind the rows, up to the end of the word
+-- ---- a buffer of which only the word and the row behind the rows are changed
 
-module _ (a : Areas) (before after : List ℕ) {from : ℕ} (laid : Laid a (length before)) (low : a .checks * a .stride ≤ from)
-    (w : ChangedIn from (a .word + a .gross) before after) where
+module _ (a : Areas) (before after : List ℕ) (laid : Laid a (length before))
+    (w : Changed (wordRowSpan a ∷ wordSpan a ∷ []) before after) where
   -- Numbers stay.
   pub row-kept : (c : ℕ) → rowOf a after c ≡ rowOf a before c
   row-kept c =
-      number-same before after (a .numbers + 2 * c) (w .behind (a .numbers + 2 * c) (omega (arith, laid .word-end)))
-      (w .behind (a .numbers + 2 * c + 1) (omega (arith, laid .word-end)))
+      let at : ℕ = a .numbers + 2 * c in
+      number-same before after at (w .kept at (omega arith)) (w .kept (at + 1) (omega arith))
 
   pub message-kept : (c : ℕ) → isMessage a after c ≡ isMessage a before c
   message-kept c = ap (leb (a .checks)) (row-kept c)
 
   -- Rows stay.
   pub bits-kept : (i : ℕ) → i < a .checks → (c : ℕ) → c < a .gross → denseBits after (a .stride) i c ≡ denseBits before (a .stride) i c
-  bits-kept i h c g = rows-kept laid before after from low (w .front) i h c g
+  bits-kept = rows-kept laid w (λ q h. omega arith)
 
   -- The row of a check column stays.
   pub own-kept : (c d : ℕ) → isMessage a before c ≡ false → d < a .gross

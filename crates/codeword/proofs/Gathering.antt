@@ -5,19 +5,22 @@ use mathlib.Core.Path.{_≡_, refl, sym, ap, _∙_}
 use mathlib.Core.Bool.{Bool, true, false, _||_, or-false}
 use mathlib.Core.List.{List, [], _∷_, _++_, map, map-append}
 use native.Mathlib.Numerals.{add-one}
-use native.Mathlib.Decide.{ℕ-discrete}
 use native.Mathlib.Omega.{arith}
 use lib.Dec.{leb, eqb}
 use lib.ListN.{length, getD, take, drop, set, length-append, length-map, drop-of-length-le, List·getD-append}
-use lib.Seq.{length-take-le, getD-take, getD-set-same, getD-set-other, getD-append-seam, drop-append-le}
+use lib.Seq.{length-take-le, getD-take, getD-append-seam, drop-append-le}
 use Rattle.symbology.specs.Ranges.{those}
 use Rattle.symbology.specs.Bits.{anyOne}
 use Rattle.symbology.specs.Codeword.{messageColumns, messageBits}
 use Rattle.laws.proofs.Ranges.{those-in, those-out}
 use Rattle.laws.proofs.Spare.{enough-columns}
+use Rattle.laws.proofs.Stores.{store-next}
 use Rattle.lent.specs.declared.Areas.{Areas}
-use Rattle.lent.specs.Buffer.{part, ChangedIn, Laid}
-use Rattle.lent.proofs.Buffer.{part-is, part-at, number-same, changed-none, changed-set}
+use Rattle.lent.specs.Changes.{Changed}
+use Rattle.lent.specs.Work.{netSpan, Laid, wordIn}
+use Rattle.lent.proofs.Buffer.{part-is, part-at, number-same}
+use Rattle.lent.proofs.Changes.{changed-none, changed-set}
+use Rattle.lent.proofs.Work.{net-inside}
 use Rattle.codeword.specs.Columns.{isMessage, MessageRead}
 use Rattle.codeword.proofs.Columns.{all-messages}
 
@@ -26,7 +29,8 @@ use Rattle.codeword.proofs.Columns.{all-messages}
 any-snoc : (bs : List ℕ) (b : ℕ) → anyOne (bs ++ (b ∷ [])) ≡ (anyOne bs || eqb (b % 2) 1)
 unfolding anyOne
 any-snoc [] b = or-false (eqb (b % 2) 1)
-any-snoc (x ∷ bs) b = ap (λ (t : Bool). eqb (x % 2) 1 || t) (any-snoc bs b) ∙ sym (or-assoc (eqb (x % 2) 1) (anyOne bs) (eqb (b % 2) 1))
+any-snoc (x ∷ bs) b =
+    ap (λ (t : Bool). eqb (x % 2) 1 || t) (any-snoc bs b) ∙ sym (or-assoc (eqb (x % 2) 1) (anyOne bs) (eqb (b % 2) 1))
   where
     or-assoc : (p q r : Bool) → ((p || q) || r) ≡ (p || (q || r))
     or-assoc true q r = refl
@@ -46,10 +50,10 @@ any-later n bs b h = ap anyOne (drop-append-le n bs (b ∷ []) h) ∙ any-snoc (
 
 -- the bits of the message columns up to j
 abbrev gatheredTo : Areas → List ℕ → ℕ → List ℕ
-gatheredTo a work j = map (λ c. getD (part work (a .word) (a .gross)) c 0) (those j (isMessage a work))
+gatheredTo a work j = map (λ c. getD (wordIn a work) c 0) (those j (isMessage a work))
 
 pub record GatheredTo (a : Areas) (before after : List ℕ) (j m : ℕ) (spare : Bool) : Type 0 where
-  pub changed : ChangedIn (a .message) (a .message + a .net) before after
+  pub changed : Changed (netSpan a ∷ []) before after
   pub counted : m ≡ length (gatheredTo a before j)
   pub stored : (i : ℕ) → i < a .net → i < m → getD after (a .message + i) 0 ≡ getD (gatheredTo a before j) i 0
   pub spare-is : spare ≡ anyOne (drop (a .net) (gatheredTo a before j))
@@ -58,7 +62,7 @@ pub gathered-start : (a : Areas) (work : List ℕ) → GatheredTo a work work 0 
 unfolding those anyOne
 gathered-start a work =
     record {
-      changed = changed-none (a .message) (a .message + a .net) work;
+      changed = changed-none (netSpan a ∷ []) work;
       counted = refl;
       stored = λ i h l. absurd (omega arith);
       spare-is = sym (ap anyOne (drop-of-length-le [] {i = a .net} (omega arith)));
@@ -70,31 +74,30 @@ module _ {a : Areas} {before after : List ℕ} {j m : ℕ} {spare : Bool} (laid 
   number-kept : isMessage a after j ≡ isMessage a before j
   number-kept =
       ap (leb (a .checks)) (number-same before after (a .numbers + 2 * j)
-      (s .changed .front (a .numbers + 2 * j) (omega (arith, laid .numbers-end)))
-      (s .changed .front (a .numbers + 2 * j + 1) (omega (arith, laid .numbers-end))))
+      (s .changed .kept (a .numbers + 2 * j) (omega arith)) (s .changed .kept (a .numbers + 2 * j + 1) (omega arith)))
 
   bit : ℕ
-  bit = getD (part before (a .word) (a .gross)) j 0
+  bit = getD (wordIn a before) j 0
 
   bit-kept : getD after (a .word + j) 0 ≡ bit
   unfolding bit
   bit-kept =
-      s .changed .front (a .word + j) (omega (arith, laid .word-end, laid .numbers-end)) ∙ sym (part-at before (a .word) (a .gross) j h)
+      s .changed .kept (a .word + j) (omega arith) ∙ sym (part-at before (a .word) (a .gross) j h)
 
   -- a message column gives one more bit
   more : isMessage a before j ≡ true → gatheredTo a before (j + 1) ≡ gatheredTo a before j ++ (bit ∷ [])
   unfolding bit
   more t =
       ap (λ (k : ℕ). gatheredTo a before k) (add-one j)
-      ∙ ap (map (λ c. getD (part before (a .word) (a .gross)) c 0)) (those-in j (isMessage a before) t)
-      ∙ map-append (λ c. getD (part before (a .word) (a .gross)) c 0) (those j (isMessage a before)) (j ∷ [])
+      ∙ ap (map (λ c. getD (wordIn a before) c 0)) (those-in j (isMessage a before) t)
+      ∙ map-append (λ c. getD (wordIn a before) c 0) (those j (isMessage a before)) (j ∷ [])
 
   -- a check column gives none
   pub gathered-check : isMessage a after j ≡ false → GatheredTo a before after (j + 1) m spare
   gathered-check t =
       let same : gatheredTo a before (j + 1) ≡ gatheredTo a before j =
       ap (λ (k : ℕ). gatheredTo a before k) (add-one j)
-      ∙ ap (map (λ c. getD (part before (a .word) (a .gross)) c 0)) (those-out j (isMessage a before) (sym number-kept ∙ t)) in
+      ∙ ap (map (λ c. getD (wordIn a before) c 0)) (those-out j (isMessage a before) (sym number-kept ∙ t)) in
       record {
         changed = s .changed;
         counted = s .counted ∙ sym (ap length same);
@@ -108,7 +111,8 @@ module _ {a : Areas} {before after : List ℕ} {j m : ℕ} {spare : Bool} (laid 
   -- a bit that is there already
   old-bit : (t : isMessage a before j ≡ true) (i : ℕ) → i < m → getD (gatheredTo a before j) i 0 ≡ getD (gatheredTo a before (j + 1)) i 0
   old-bit t i l =
-      sym (ap (λ (bs : List ℕ). getD bs i 0) (more t) ∙ List·getD-append (gatheredTo a before j) (bit ∷ []) 0 i (omega (arith, s .counted)))
+      sym (ap (λ (bs : List ℕ). getD bs i 0) (more t)
+      ∙ List·getD-append (gatheredTo a before j) (bit ∷ []) 0 i (omega (arith, s .counted)))
 
   -- the new bit
   new-bit : (t : isMessage a before j ≡ true) → getD (gatheredTo a before (j + 1)) m 0 ≡ bit
@@ -124,21 +128,16 @@ module _ {a : Areas} {before after : List ℕ} {j m : ℕ} {spare : Bool} (laid 
       let t′ : isMessage a before j ≡ true = sym number-kept ∙ t in
       let v : ℕ = getD after (a .word + j) 0 in
       record {
-        changed = changed-set (s .changed) (a .message + m) v (omega arith) (omega arith);
+        changed = changed-set (s .changed) (a .message + m) v (λ o. omega (arith, o .0 (omega arith)));
         counted = counted-more t′;
         stored = λ i g q.
-            elim (ℕ-discrete i m) [
-              | yes same ↦
-                  rw same
-                  (getD-set-same after (a .message + m) v 0 (omega (arith, s .changed .long, laid .message-end)) ∙ bit-kept ∙ sym (new-bit t′))
-              | no other ↦
-                  getD-set-other after (a .message + m) (a .message + i) v 0 (λ f. other (omega arith))
-                  ∙ s .stored i g (omega arith)
-                  ∙ old-bit t′ i (omega arith)
-            ];
+            store-next (λ k w. k < a .net → w ≡ getD (gatheredTo a before (j + 1)) k 0) after (a .message) m v
+            (omega (arith, s .changed .long, net-inside laid)) (λ k b n. s .stored k n b ∙ old-bit t′ k b)
+            (λ n. bit-kept ∙ sym (new-bit t′)) i q g;
         spare-is =
             s .spare-is
-            ∙ sym (ap (λ (bs : List ℕ). anyOne (drop (a .net) bs)) (more t′) ∙ any-first (a .net) (gatheredTo a before j) bit (omega (arith, s .counted)));
+            ∙ sym (ap (λ (bs : List ℕ). anyOne (drop (a .net) bs)) (more t′)
+            ∙ any-first (a .net) (gatheredTo a before j) bit (omega (arith, s .counted)));
       }
 
   -- a spare message column
@@ -154,7 +153,8 @@ module _ {a : Areas} {before after : List ℕ} {j m : ℕ} {spare : Bool} (laid 
             e
             ∙ ap (λ (b : Bool). b || eqb (getD after (a .word + j) 0 % 2) 1) (s .spare-is)
             ∙ ap (λ (x : ℕ). anyOne (drop (a .net) (gatheredTo a before j)) || eqb (x % 2) 1) bit-kept
-            ∙ sym (ap (λ (bs : List ℕ). anyOne (drop (a .net) bs)) (more t′) ∙ any-later (a .net) (gatheredTo a before j) bit (omega (arith, s .counted)));
+            ∙ sym (ap (λ (bs : List ℕ). anyOne (drop (a .net) bs)) (more t′)
+            ∙ any-later (a .net) (gatheredTo a before j) bit (omega (arith, s .counted)));
       }
 
 -- a state under other names
@@ -173,15 +173,16 @@ message-read {a} {before} {after} laid g =
     record {
       changed = g .changed;
       message-is = λ m e.
-          let same : bits ≡ messageBits (a .checks) (a .gross) m (part before (a .word) (a .gross)) =
-          ap (map (λ j. getD (part before (a .word) (a .gross)) j 0)) (all-messages a m before e) in
+          let same : bits ≡ messageBits (a .checks) (a .gross) m (wordIn a before) =
+          ap (map (λ j. getD (wordIn a before) j 0)) (all-messages a m before e) in
           let enough : a .net ≤ length bits =
-          (let long = length-map (messageColumns (a .checks) (a .gross) m) (λ j. getD (part before (a .word) (a .gross)) j 0) in
+          (let long = length-map (messageColumns (a .checks) (a .gross) m) (λ j. getD (wordIn a before) j 0) in
           omega (arith, ap length same, long, enough-columns (a .checks) (a .gross) m, laid .parts)) in
-          part-is after (a .message) (a .net) (take (a .net) bits) (omega (arith, g .changed .long, laid .message-end))
+          part-is after (a .message) (a .net) (take (a .net) bits) (omega (arith, g .changed .long, net-inside laid))
           (length-take-le (a .net) bits enough)
           (λ i h. g .stored i h (omega (arith, g .counted)) ∙ sym (getD-take (a .net) bits i 0 h))
           ∙ ap (take (a .net)) same;
       spare-is = λ m e.
-          g .spare-is ∙ ap (λ (l : List ℕ). anyOne (drop (a .net) (map (λ j. getD (part before (a .word) (a .gross)) j 0) l))) (all-messages a m before e);
+          g .spare-is
+          ∙ ap (λ (l : List ℕ). anyOne (drop (a .net) (map (λ j. getD (wordIn a before) j 0) l))) (all-messages a m before e);
     }

@@ -1,9 +1,9 @@
 -- Message and check columns of the work buffer, as the numbers of an elimination tell them apart, and words stored and read by them.
 -- Assumes nothing.
-use Prim.Native.Nat.{ℕ, _+_, _*_, _%_, _≤_, _<_}
+use Prim.Native.Nat.{ℕ, _+_, _%_, _<_}
 use mathlib.Core.Path.{_≡_}
 use mathlib.Core.Bool.{Bool, true, false, cond}
-use mathlib.Core.List.{List}
+use mathlib.Core.List.{List, [], _∷_}
 use lib.Dec.{leb, eqb}
 use lib.ListN.{length, getD, take, drop}
 use Rattle.symbology.specs.Bits.{anyOne}
@@ -12,7 +12,8 @@ use Rattle.symbology.specs.Matrix.{BitMatrix}
 use Rattle.symbology.specs.Codeword.{codeword, messageBits}
 use Rattle.laws.specs.Gf2.{dot}
 use Rattle.lent.specs.declared.Areas.{Areas}
-use Rattle.lent.specs.Buffer.{part, ChangedIn}
+use Rattle.lent.specs.Changes.{Changed}
+use Rattle.lent.specs.Work.{wordRowSpan, wordSpan, netSpan, wordIn, netIn}
 use Rattle.dense.specs.Dense.{denseBits}
 use Rattle.elimination.specs.Reduced.{rowOf, EliminatedFrom}
 
@@ -36,22 +37,17 @@ wordBit a work c = eqb (getD work (a .word + c) 0 % 2) 1
 -- what a column holds where the net bits are stored: those in the message columns, ascending, 0 in the spare ones and in the check columns
 abbrev pub placedBit : Areas → List ℕ → ℕ → ℕ
 placedBit a work j =
-    cond (isMessage a work j) (getD (part work (a .message) (a .net)) (length (those j (isMessage a work))) 0) 0
+    cond (isMessage a work j) (getD (netIn a work) (length (those j (isMessage a work))) 0) 0
 
 -- the net bits are stored in the word, and nothing else is changed
 pub record Placed (a : Areas) (before after : List ℕ) : Type 0 where
-  pub changed : ChangedIn (a .word) (a .word + a .gross) before after
+  pub changed : Changed (wordSpan a ∷ []) before after
   pub placed : (j : ℕ) → j < a .gross → getD after (a .word + j) 0 ≡ placedBit a before j
-
--- what lies between the row behind the rows and the word, the marks, is as before
-abbrev pub MarksKept : Areas → List ℕ → List ℕ → Type 0
-MarksKept a before after = (i : ℕ) → a .checks * a .stride + a .stride ≤ i → i < a .word → getD after i 0 ≡ getD before i 0
 
 -- the check columns are solved: each holds the parity of its row over the columns before it. Only the word and the row behind the rows
 -- are changed.
 pub record Solved (a : Areas) (before after : List ℕ) : Type 0 where
-  pub changed : ChangedIn (a .checks * a .stride) (a .word + a .gross) before after
-  pub marks-kept : MarksKept a before after
+  pub changed : Changed (wordRowSpan a ∷ wordSpan a ∷ []) before after
   pub kept : (c : ℕ) → c < a .gross → isMessage a before c ≡ true → getD after (a .word + c) 0 ≡ getD before (a .word + c) 0
   pub solved : (c : ℕ)
       → c < a .gross
@@ -61,19 +57,18 @@ pub record Solved (a : Areas) (before after : List ℕ) : Type 0 where
 -- The word is the codeword of the net bits, for the matrix whose elimination the buffer holds. Only the word and the row behind the rows
 -- are changed. That row is scratch: nothing is said of it.
 pub record WordFilled (a : Areas) (before after : List ℕ) : Type 0 where
-  pub changed : ChangedIn (a .checks * a .stride) (a .word + a .gross) before after
-  pub marks-kept : MarksKept a before after
+  pub changed : Changed (wordRowSpan a ∷ wordSpan a ∷ []) before after
   pub word-is : (m : BitMatrix)
       → EliminatedFrom a m 0 before
-      → part after (a .word) (a .gross) ≡ codeword (a .checks) (a .gross) m (part before (a .message) (a .net))
+      → wordIn a after ≡ codeword (a .checks) (a .gross) m (netIn a before)
 
 -- The first of the word's message bits stand as the net bits, and `spare` tells whether another one is 1, for the matrix whose
 -- elimination the buffer holds.
 pub record MessageRead (a : Areas) (before after : List ℕ) (spare : Bool) : Type 0 where
-  pub changed : ChangedIn (a .message) (a .message + a .net) before after
+  pub changed : Changed (netSpan a ∷ []) before after
   pub message-is : (m : BitMatrix)
       → EliminatedFrom a m 0 before
-      → part after (a .message) (a .net) ≡ take (a .net) (messageBits (a .checks) (a .gross) m (part before (a .word) (a .gross)))
+      → netIn a after ≡ take (a .net) (messageBits (a .checks) (a .gross) m (wordIn a before))
   pub spare-is : (m : BitMatrix)
       → EliminatedFrom a m 0 before
-      → spare ≡ anyOne (drop (a .net) (messageBits (a .checks) (a .gross) m (part before (a .word) (a .gross))))
+      → spare ≡ anyOne (drop (a .net) (messageBits (a .checks) (a .gross) m (wordIn a before)))

@@ -3,7 +3,7 @@
 use lent::Areas;
 ghost use lib.ListN.{length};
 ghost use Rattle.symbology.specs.Bits.{AllBits};
-ghost use Rattle.lent.specs.Buffer.{part, Laid};
+ghost use Rattle.lent.specs.Work.{Laid, netIn};
 ghost use Rattle.dense.specs.Dense.{Packed};
 ghost use Rattle.elimination.specs.Reduced.{HoldsElimination};
 ghost use Rattle.codeword.specs.Columns.{RowsEnd, ChecksZero, Placed, Solved, WordFilled, MessageRead};
@@ -59,7 +59,7 @@ fn solve_checks(work: &mut [u8], a: Areas)
 
 // Stores the codeword of the net bits as the word.
 pub fn fill_word(work: &mut [u8], a: Areas)
-    requires { ⌜ Laid a (length (now work)) × HoldsElimination a (now work) × AllBits (part (now work) (a .message) (a .net)) ⌝ }
+    requires { ⌜ Laid a (length (now work)) × HoldsElimination a (now work) × AllBits (netIn a (now work)) ⌝ }
     ensures { λ _. ⌜ WordFilled a (now (work .entry)) (now (work .exit)) ⌝ }
 {
     place_message(work, a);

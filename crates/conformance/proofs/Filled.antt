@@ -1,12 +1,12 @@
 -- Buffers that hold one byte everywhere.
 -- Assumes nothing.
 use Prim.Native.Nat.{ℕ, _+_, _<_}
-use mathlib.Core.Path.{_≡_, sym, ap, _∙_}
+use mathlib.Core.Path.{_≡_, refl, sym, ap, _∙_}
 use mathlib.Core.List.{List}
-use native.Mathlib.Decide.{ℕ-discrete}
 use native.Mathlib.Omega.{arith}
 use lib.ListN.{length, getD, set, replicate, length-replicate, getD-replicate}
-use lib.Seq.{getD-set-same, getD-set-other, ext-getD}
+use lib.Seq.{ext-getD}
+use Rattle.laws.proofs.Stores.{store-each}
 
 -- the places up to i hold v
 abbrev pub FilledTo : List ℕ → ℕ → ℕ → Type 0
@@ -14,11 +14,8 @@ FilledTo xs v i = (k : ℕ) → k < i → getD xs k 0 ≡ v
 
 -- one place more is stored
 pub filled-next : (xs : List ℕ) (v i : ℕ) → FilledTo xs v i → i < length xs → FilledTo (set xs i v) v (i + 1)
-filled-next xs v i h less k l =
-    elim (ℕ-discrete k i) [
-      | yes e ↦ rw e (getD-set-same xs i v 0 less)
-      | no e ↦ getD-set-other xs i k v 0 e ∙ h k (omega arith)
-    ]
+filled-next xs v i h less =
+    store-each (λ k w. k < i + 1 → w ≡ v) xs i v less (λ k e l. h k (omega arith)) (λ l. refl)
 
 -- all places hold v
 pub filled-all : (xs : List ℕ) (v n : ℕ) → length xs ≡ n → FilledTo xs v n → xs ≡ replicate n v

@@ -3,7 +3,7 @@
 use Prim.Native.Nat.{ℕ, zero, suc, _+_, _*_, _/_, _%_, _^_, _≤_, _<_, min}
 use mathlib.Core.Path.{_≡_, refl, sym, ap, ap₂, _∙_}
 use mathlib.Core.Bool.{Bool, true, false, _&&_, xor, and-false}
-use mathlib.Core.List.{List}
+use mathlib.Core.List.{List, [], _∷_}
 use native.Mathlib.Nat.{suc-mul, mul-le-mul-right}
 use native.Mathlib.Numerals.{add-one}
 use native.Mathlib.Decide.{ℕ-discrete, decLt}
@@ -20,11 +20,16 @@ use Rattle.symbology.specs.Rule.{unmet}
 use Rattle.symbology.proofs.Ranges.{below-true}
 use Rattle.laws.proofs.Ranges.{tally-le}
 use Rattle.laws.proofs.Masks.{xor-digit}
-use Rattle.laws.proofs.Gf2.{parity-ext, parity-xor, parity-add, parity-short, dot-ext, bitAt, odd-step, unmet-dot, xor-none, none-xor, xor-same}
+use Rattle.laws.proofs.Gf2.{parity-ext, parity-xor, parity-add, parity-short, dot-ext, bitAt, odd-step, unmet-dot}
+use Rattle.laws.proofs.Gf2.{xor-none, none-xor, xor-same}
 use Rattle.laws.specs.Gf2.{parity, dot}
+use Rattle.laws.proofs.Stores.{store-next}
 use Rattle.lent.specs.declared.Areas.{Areas}
-use Rattle.lent.specs.Buffer.{part, ChangedIn, Cleared, Laid}
-use Rattle.lent.proofs.Buffer.{part-at, changed-none, changed-set, changed-then}
+use Rattle.lent.specs.Changes.{Span, span, Outside, Changed}
+use Rattle.lent.specs.Buffer.{part, Cleared}
+use Rattle.lent.specs.Work.{Laid}
+use Rattle.lent.proofs.Buffer.{part-at}
+use Rattle.lent.proofs.Changes.{changed-none, changed-set, changed-then}
 use Rattle.dense.specs.Dense.{byteBit, denseBits, Turned, RowAdded, Packed, PackedIn}
 
 -- ---- places of rows
@@ -88,23 +93,19 @@ dense-same : (xs ys : List ℕ) (s i c : ℕ) → getD ys (i * s + c / 8) 0 ≡ 
 unfolding denseBits
 dense-same xs ys s i c e = ap (λ (v : ℕ). byteBit v (c % 8)) e
 
--- A row stays where the bytes up to its end do.
-pub row-same : (xs ys : List ℕ) (s i c : ℕ) → c / 8 < s → ((q : ℕ) → q < i * s + s → getD ys q 0 ≡ getD xs q 0)
+-- A row stays where its bytes do.
+pub row-same : (xs ys : List ℕ) (s i c : ℕ) → c / 8 < s → ((q : ℕ) → i * s ≤ q → q < i * s + s → getD ys q 0 ≡ getD xs q 0)
     → denseBits ys s i c ≡ denseBits xs s i c
-row-same xs ys s i c h same = dense-same xs ys s i c (same (i * s + c / 8) (omega arith))
+row-same xs ys s i c h same = dense-same xs ys s i c (same (i * s + c / 8) (omega arith) (omega arith))
 
--- Rows before a place stay where the bytes before it do.
-pub rows-same : (xs ys : List ℕ) (s k end : ℕ) → k * s ≤ end → ((q : ℕ) → q < end → getD ys q 0 ≡ getD xs q 0)
+-- The first k rows stay where their bytes do.
+pub rows-same : (xs ys : List ℕ) (s k : ℕ) → ((q : ℕ) → q < k * s → getD ys q 0 ≡ getD xs q 0)
     → (i : ℕ) → i < k → (c : ℕ) → c / 8 < s → denseBits ys s i c ≡ denseBits xs s i c
-rows-same xs ys s k end h same i l c g = dense-same xs ys s i c (same (i * s + c / 8) (omega (arith, row-gap i k s l)))
+rows-same xs ys s k same i l c g = dense-same xs ys s i c (same (i * s + c / 8) (omega (arith, row-gap i k s l)))
 
 -- ---- rows of the work buffer
 
 module _ {a : Areas} {room : ℕ} (laid : Laid a room) where
-  -- the rows lie in front of the marks
-  pub rows-front : a .checks * a .stride ≤ a .marks
-  rows-front = omega (arith, laid .rows-end)
-
   -- a row lies in front of the marks
   pub row-inside : (i : ℕ) → i < a .checks → i * a .stride + a .stride ≤ a .marks
   row-inside i h = omega (arith, row-gap i (a .checks) (a .stride) h, laid .rows-end)
@@ -117,14 +118,12 @@ module _ {a : Areas} {room : ℕ} (laid : Laid a room) where
   pub bit-inside : (i j : ℕ) → i < a .checks → j < a .gross → i * a .stride + j / 8 < a .marks
   bit-inside i j h g = omega (arith, row-inside i h, column-inside j g)
 
-  -- the marks lie in the buffer
-  pub marks-inside : a .marks + a .checks ≤ room
-  marks-inside = omega (arith, laid .marks-end, laid .word-end, laid .numbers-end, laid .message-end)
-
-  -- the rows stay where all that lies before some place behind them does
-  pub rows-kept : (before after : List ℕ) (end : ℕ) → a .checks * a .stride ≤ end → ((q : ℕ) → q < end → getD after q 0 ≡ getD before q 0)
+  -- the rows stay where they are not changed
+  pub rows-kept : {ss : List Span} {before after : List ℕ} → Changed ss before after
+      → ((q : ℕ) → q < a .checks * a .stride → Outside ss q)
       → (i : ℕ) → i < a .checks → (j : ℕ) → j < a .gross → denseBits after (a .stride) i j ≡ denseBits before (a .stride) i j
-  rows-kept before after end h same i l j g = rows-same before after (a .stride) (a .checks) end h same i l j (column-inside j g)
+  rows-kept {before = before} {after = after} c out i l j g =
+      rows-same before after (a .stride) (a .checks) (λ q h. c .kept q (out q h)) i l j (column-inside j g)
 
 -- ---- a bit turned
 
@@ -170,8 +169,8 @@ pub turn-stored : (s i j : ℕ) (xs : List ℕ) → i * s + j / 8 < length xs �
     → Turned s i j xs (set xs (i * s + j / 8) (bitXor (getD xs (i * s + j / 8) 0) (1 * 2 ^ (j % 8) % 2 ^ 8)))
 turn-stored s i j xs inside h =
     record {
-      changed = changed-set (changed-none (i * s) (i * s + s) xs) (i * s + j / 8)
-          (bitXor (getD xs (i * s + j / 8) 0) (1 * 2 ^ (j % 8) % 2 ^ 8)) (omega arith) (omega arith);
+      changed = changed-set (changed-none (span (i * s) (i * s + s) ∷ []) xs) (i * s + j / 8)
+          (bitXor (getD xs (i * s + j / 8) 0) (1 * 2 ^ (j % 8) % 2 ^ 8)) (λ o. omega (arith, o .0 (omega arith)));
       bits = turned-bit s i j (1 * 2 ^ (j % 8) % 2 ^ 8) refl xs inside h;
     }
 
@@ -179,21 +178,21 @@ turn-stored s i j xs inside h =
 
 -- the first b bytes of row t are added to row i
 pub record AddedTo (s i t b : ℕ) (before after : List ℕ) : Type 0 where
-  pub changed : ChangedIn (i * s) (i * s + s) before after
+  pub changed : Changed (span (i * s) (i * s + s) ∷ []) before after
   pub done : (p : ℕ) → p < b → getD after (i * s + p) 0 ≡ bitXor (getD before (i * s + p) 0) (getD before (t * s + p) 0)
   pub rest : (p : ℕ) → b ≤ p → getD after (i * s + p) 0 ≡ getD before (i * s + p) 0
 
 pub added-start : (s i t : ℕ) (xs : List ℕ) → AddedTo s i t 0 xs xs
 added-start s i t xs =
-    record { changed = changed-none (i * s) (i * s + s) xs; done = λ p h. absurd (omega arith); rest = λ p h. refl }
+    record { changed = changed-none (span (i * s) (i * s + s) ∷ []) xs; done = λ p h. absurd (omega arith); rest = λ p h. refl }
 
 -- the other rows are as before
 other-row : {s i t b : ℕ} {before after : List ℕ} → AddedTo s i t b before after → (x p : ℕ) → (x ≡ i → ⊥) → p < s
     → getD after (x * s + p) 0 ≡ getD before (x * s + p) 0
 other-row {s} {i} r x p other h =
     elim (decLt x i) [
-      | yes l ↦ r .changed .front (x * s + p) (omega (arith, row-gap x i s l))
-      | no l ↦ r .changed .behind (x * s + p) (omega (arith, row-gap i x s (omega arith)))
+      | yes l ↦ r .changed .kept (x * s + p) (omega (arith, row-gap x i s l))
+      | no l ↦ r .changed .kept (x * s + p) (omega (arith, row-gap i x s (omega arith)))
     ]
 
 pub added-next : {s i t b : ℕ} {before after : List ℕ} → AddedTo s i t b before after → (i ≡ t → ⊥) → b < s → i * s + s ≤ length before
@@ -201,15 +200,11 @@ pub added-next : {s i t b : ℕ} {before after : List ℕ} → AddedTo s i t b b
 added-next {s} {i} {t} {b} {before} {after} r other h room =
     let v : ℕ = bitXor (getD after (i * s + b) 0) (getD after (t * s + b) 0) in
     record {
-      changed = changed-set (r .changed) (i * s + b) v (omega arith) (omega arith);
-      done = λ p l.
-          elim (ℕ-discrete p b) [
-            | yes e ↦
-                rw e
-                (getD-set-same after (i * s + b) v 0 (omega (arith, r .changed .long))
-                ∙ ap₂ bitXor (r .rest b (omega arith)) (other-row r t b (λ e. other (sym e)) h))
-            | no e ↦ getD-set-other after (i * s + b) (i * s + p) v 0 (λ f. e (omega arith)) ∙ r .done p (omega arith)
-          ];
+      changed = changed-set (r .changed) (i * s + b) v (λ o. omega (arith, o .0 (omega arith)));
+      done =
+          store-next (λ p w. w ≡ bitXor (getD before (i * s + p) 0) (getD before (t * s + p) 0)) after (i * s) b v
+          (omega (arith, r .changed .long)) (r .done)
+          (ap₂ bitXor (r .rest b (omega arith)) (other-row r t b (λ e. other (sym e)) h));
       rest = λ p l. getD-set-other after (i * s + b) (i * s + p) v 0 (λ f. omega arith) ∙ r .rest p (omega arith);
     }
 
@@ -223,7 +218,8 @@ added-all {s} {i} {t} {n} {before} {after} r =
             | yes e ↦
                 ap (λ (y : ℕ). denseBits after s y c) e
                 ∙ own c
-                ∙ sym (ap₂ (λ (y : ℕ) (b : Bool). xor (denseBits before s y c) (b && (ltb (c / 8) n && denseBits before s t c))) e (eq-eqb x i e))
+                ∙ sym (ap₂ (λ (y : ℕ) (b : Bool). xor (denseBits before s y c) (b && (ltb (c / 8) n && denseBits before s t c)))
+                e (eq-eqb x i e))
             | no e ↦
                 dense-same before after s x c (other-row r x (c / 8) e h)
                 ∙ sym (ap (λ (b : Bool). xor (denseBits before s x c) (b && (ltb (c / 8) n && denseBits before s t c))) (ne-eqb x i e)
@@ -248,7 +244,7 @@ added-all {s} {i} {t} {n} {before} {after} r =
 
 -- of the word, the first j bits are stored as row k, whose other columns are 0
 pub record PackedTo (s k word j : ℕ) (before after : List ℕ) : Type 0 where
-  pub changed : ChangedIn (k * s) (k * s + s) before after
+  pub changed : Changed (span (k * s) (k * s + s) ∷ []) before after
   pub done : (c : ℕ) → c / 8 < s → denseBits after s k c ≡ (ltb c j && eqb (getD before (word + c) 0 % 2) 1)
 
 -- the cleared row has no bit of the word
@@ -256,7 +252,7 @@ pub packed-start : {s k word : ℕ} {before after : List ℕ} → Cleared (k * s
 unfolding denseBits
 packed-start {s} {k} {word} {before} {after} z =
     record {
-      changed = changed-none (k * s) (k * s + s) after;
+      changed = changed-none (span (k * s) (k * s + s) ∷ []) after;
       done = λ c h.
           ap (λ (v : ℕ). byteBit v (c % 8)) (z .zero-in (k * s + c / 8) (omega arith) (omega arith))
           ∙ zero-bit (c % 8)
@@ -287,10 +283,11 @@ module _ {s k word j : ℕ} {before after : List ℕ} (p : PackedTo s k word j b
       }
 
   -- bit j is 1, and the row's bit is turned
-  pub packed-one : {later : List ℕ} → eqb (getD before (word + j) 0 % 2) 1 ≡ true → Turned s k j after later → PackedTo s k word (j + 1) before later
+  pub packed-one : {later : List ℕ} → eqb (getD before (word + j) 0 % 2) 1 ≡ true → Turned s k j after later
+      → PackedTo s k word (j + 1) before later
   packed-one {later} o t =
       record {
-        changed = changed-then (p .changed) (t .changed) (omega arith) (omega arith);
+        changed = changed-then (p .changed) (t .changed);
         done = λ c h.
             t .bits k c h
             ∙ ap₂ (λ (b z : Bool). xor b (z && eqb c j)) (p .done c h) (eq-eqb k k refl)
@@ -310,8 +307,8 @@ pub packed-all : {s k word n : ℕ} {before cleared after : List ℕ} → k * s 
     → PackedTo s k word n cleared after → PackedIn s k word n before after
 packed-all {s} {k} {word} {n} {after = after} h z p =
     record {
-      changed = changed-then (z .changed) (p .changed) (omega arith) (omega arith);
-      packed = λ c g. p .done c g ∙ ap (λ (v : ℕ). ltb c n && eqb (v % 2) 1) (sym (p .changed .behind (word + c) (omega arith)));
+      changed = changed-then (z .changed) (p .changed);
+      packed = λ c g. p .done c g ∙ ap (λ (v : ℕ). ltb c n && eqb (v % 2) 1) (sym (p .changed .kept (word + c) (omega arith)));
     }
 
 -- ---- the parity of two rows
@@ -340,8 +337,10 @@ and-bit u v k = ap (λ (z : ℕ). eqb (z % 2) 1) (and-shr u v k) ∙ digit-and (
         ap (λ (z : ℕ). eqb z 1) low ∙ least (x % 2) (y % 2) (omega arith) (omega arith)
 
 -- one more byte of both rows
-pub parity-byte : (s i k b : ℕ) (xs : List ℕ) (both : ℕ) → b < s → parity 8 (byteBit both) ≡ dot (b * 8) (denseBits xs s i) (denseBits xs s k)
-    → parity 8 (byteBit (bitXor both (bitAnd (getD xs (i * s + b) 0) (getD xs (k * s + b) 0)))) ≡ dot ((b + 1) * 8) (denseBits xs s i) (denseBits xs s k)
+pub parity-byte : (s i k b : ℕ) (xs : List ℕ) (both : ℕ) → b < s
+    → parity 8 (byteBit both) ≡ dot (b * 8) (denseBits xs s i) (denseBits xs s k)
+    → parity 8 (byteBit (bitXor both (bitAnd (getD xs (i * s + b) 0) (getD xs (k * s + b) 0))))
+    ≡ dot ((b + 1) * 8) (denseBits xs s i) (denseBits xs s k)
 unfolding denseBits
 parity-byte s i k b xs both h e =
     let u : ℕ = getD xs (i * s + b) 0 in
@@ -386,5 +385,6 @@ packed-unmet s i k word n xs wide p =
 
     past : (c : ℕ) → n ≤ c → c < s * 8 → (denseBits xs s i c && denseBits xs s k c) ≡ false
     past c h g =
-        ap (λ (b : Bool). denseBits xs s i c && b) (p c (omega arith) ∙ ap (λ (b : Bool). b && eqb (getD xs (word + c) 0 % 2) 1) (le-ltb c n h))
-        ∙ and-false (denseBits xs s i c)
+        let none : denseBits xs s k c ≡ false =
+        p c (omega arith) ∙ ap (λ (b : Bool). b && eqb (getD xs (word + c) 0 % 2) 1) (le-ltb c n h) in
+        ap (λ (b : Bool). denseBits xs s i c && b) none ∙ and-false (denseBits xs s i c)

@@ -3,7 +3,7 @@
 use Prim.Native.Nat.{ℕ, _+_, _*_, _/_, _≤_, _<_}
 use mathlib.Core.Path.{_≡_, refl, sym, ap, ap₂, _∙_}
 use mathlib.Core.Bool.{Bool, true, false, _&&_, xor, and-false}
-use mathlib.Core.List.{List}
+use mathlib.Core.List.{List, [], _∷_}
 use native.Mathlib.Decide.{ℕ-discrete, decLt}
 use native.Mathlib.Omega.{arith}
 use lib.Dec.{ltb, eqb}
@@ -12,10 +12,11 @@ use borrow.Author.Tests.{eq-eqb, ne-eqb, lt-ltb, le-ltb}
 use Rattle.symbology.specs.Matrix.{BitMatrix}
 use Rattle.laws.proofs.Gf2.{xor-none}
 use Rattle.lent.specs.declared.Areas.{Areas}
-use Rattle.lent.specs.Buffer.{ChangedIn, Laid}
-use Rattle.lent.proofs.Buffer.{changed-none, changed-then}
+use Rattle.lent.specs.Changes.{Changed}
+use Rattle.lent.specs.Work.{rowsSpan, Laid}
+use Rattle.lent.proofs.Changes.{changed-none, changed-wider, changed-then, outside-in}
 use Rattle.dense.specs.Dense.{denseBits, RowAdded}
-use Rattle.dense.proofs.Dense.{row-gap, rows-front, column-inside}
+use Rattle.dense.proofs.Dense.{row-gap, column-inside}
 use Rattle.elimination.specs.Reduced.{isUnmarked, isFree, EndsAt, isAdded, ColumnCleared}
 
 -- the matrix in the buffer
@@ -25,7 +26,7 @@ rows a work = denseBits work (a .stride)
 -- the rows before i are done, those from i on are as before
 pub record ClearedTo (a : Areas) (pivot j i : ℕ) (before after : List ℕ) : Type 0 where
   pub later : pivot < i
-  pub changed : ChangedIn 0 (a .checks * a .stride) before after
+  pub changed : Changed (rowsSpan a ∷ []) before after
   done : (x : ℕ) → x < i → (c : ℕ) → c < a .gross
       → rows a after x c ≡ xor (rows a before x c) (isAdded a before pivot j x && rows a before pivot c)
   rest : (x : ℕ) → i ≤ x → (c : ℕ) → c < a .gross → rows a after x c ≡ rows a before x c
@@ -44,7 +45,7 @@ pub cleared-start : (a : Areas) (pivot j : ℕ) (xs : List ℕ) → ClearedTo a 
 cleared-start a pivot j xs =
     record {
       later = omega arith;
-      changed = changed-none 0 (a .checks * a .stride) xs;
+      changed = changed-none (rowsSpan a ∷ []) xs;
       done = λ x h c g. sym (none a xs pivot j x c (not-early a xs pivot j x (omega arith)));
       rest = λ x h c g. refl;
     }
@@ -56,7 +57,7 @@ module _ {a : Areas} {pivot j i room : ℕ} {before after : List ℕ} (l : Laid 
 
   -- so is the mark of row i
   mark-kept : isUnmarked a after i ≡ isUnmarked a before i
-  mark-kept = ap (λ (v : ℕ). eqb v 0) (r .changed .behind (a .marks + i) (omega (arith, rows-front l)))
+  mark-kept = ap (λ (v : ℕ). eqb v 0) (r .changed .kept (a .marks + i) (omega arith))
 
   -- Row i stays.
   cleared-skip : isFree a before j i ≡ false → ClearedTo a pivot j (i + 1) before after
@@ -84,21 +85,26 @@ module _ {a : Areas} {pivot j i room : ℕ} {before after : List ℕ} (l : Laid 
     -- It has a 0 in the column.
     pub cleared-zero : rows a after i j ≡ false → ClearedTo a pivot j (i + 1) before after
     cleared-zero e =
-        cleared-skip (ap (λ (b : Bool). isUnmarked a before i && b) (sym (r .rest i (omega arith) j inside) ∙ e) ∙ and-false (isUnmarked a before i))
+        cleared-skip
+        (ap (λ (b : Bool). isUnmarked a before i && b) (sym (r .rest i (omega arith) j inside) ∙ e) ∙ and-false (isUnmarked a before i))
 
     -- The pivot row is added to row i, which has no mark and has a 1 in the column.
-    pub cleared-add : {later : List ℕ} → EndsAt a before pivot j → i < a .checks → getD after (a .marks + i) 0 ≡ 0 → rows a after i j ≡ true
-        → RowAdded (a .stride) i pivot (j / 8 + 1) after later → ClearedTo a pivot j (i + 1) before later
+    pub cleared-add : {later : List ℕ} → EndsAt a before pivot j → i < a .checks → getD after (a .marks + i) 0 ≡ 0
+        → rows a after i j ≡ true → RowAdded (a .stride) i pivot (j / 8 + 1) after later → ClearedTo a pivot j (i + 1) before later
     cleared-add {later} ends h m e d =
         record {
           later = omega (arith, r .later);
-          changed = changed-then (r .changed) (d .changed) (omega arith) (omega (arith, row-gap i (a .checks) (a .stride) h));
+          changed =
+              let end = row-gap i (a .checks) (a .stride) h in
+              changed-then (r .changed)
+              (changed-wider (d .changed) (λ q o. (outside-in (i * a .stride) (i * a .stride + a .stride) (omega arith) end (o .0), tt)));
           done = λ x b c g.
               elim (ℕ-discrete x i) [
                 | yes same ↦
                     rw same
                     (d .bits i c (column-inside l c g)
-                    ∙ ap₂ (λ (b z : Bool). xor b (z && (ltb (c / 8) (j / 8 + 1) && rows a after pivot c))) (r .rest i (omega arith) c g) (eq-eqb i i refl)
+                    ∙ ap₂ (λ (b z : Bool). xor b (z && (ltb (c / 8) (j / 8 + 1) && rows a after pivot c)))
+                    (r .rest i (omega arith) c g) (eq-eqb i i refl)
                     ∙ ap₂ (λ (b z : Bool). xor (rows a before i c) (b && z)) (sym added) (whole c g))
                 | no apart ↦ others x c apart g ∙ r .done x (omega arith) c g
               ];
@@ -115,7 +121,8 @@ module _ {a : Areas} {pivot j i room : ℕ} {before after : List ℕ} (l : Laid 
         whole c g =
             elim (decLt (c / 8) (j / 8 + 1)) [
               | yes b ↦ ap₂ _&&_ (lt-ltb (c / 8) (j / 8 + 1) b) (own c g)
-              | no b ↦ ap (λ (t : Bool). t && rows a after pivot c) (le-ltb (c / 8) (j / 8 + 1) (omega arith)) ∙ sym (ends c (omega arith) g)
+              | no b ↦
+                  ap (λ (t : Bool). t && rows a after pivot c) (le-ltb (c / 8) (j / 8 + 1) (omega arith)) ∙ sym (ends c (omega arith) g)
             ]
 
         others : (x c : ℕ) → (x ≡ i → ⊥) → c < a .gross → rows a later x c ≡ rows a after x c

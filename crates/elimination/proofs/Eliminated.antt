@@ -4,7 +4,7 @@
 use Prim.Native.Nat.{ℕ, suc, _+_, _*_, _≤_, _<_}
 use mathlib.Core.Path.{_≡_, refl, sym, ap, ap₂, _∙_, subst⁻¹}
 use mathlib.Core.Bool.{Bool, true, false, not, _&&_, _||_, xor, and-false}
-use mathlib.Core.List.{List}
+use mathlib.Core.List.{List, [], _∷_}
 use native.Mathlib.Decide.{ℕ-discrete, decLt}
 use native.Mathlib.Omega.{arith}
 use lib.Dec.{ltb, eqb}
@@ -20,10 +20,15 @@ use Rattle.laws.proofs.Columns.{check-laws}
 use Rattle.laws.proofs.Elimination.{start, inv-ext, clear-message, clear-step, pivot-check, pivot-step}
 use Rattle.laws.specs.Elimination.{Inv}
 use Rattle.lent.specs.declared.Areas.{Areas}
-use Rattle.lent.specs.Buffer.{storedNumber, ChangedInBoth, Cleared, Laid}
-use Rattle.lent.proofs.Buffer.{number-same, stored-there, stored-other, changed-none, changed-set, changed-stored, both-none, both-front, both-back}
-use Rattle.dense.proofs.Dense.{marks-inside, rows-front, rows-kept}
-use Rattle.elimination.specs.Reduced.{isUnmarked, isFree, isUsed, rowOf, MarkedBefore, EndsAt, isAdded, ColumnCleared, EliminatedFrom, RowKept, Eliminated}
+use Rattle.lent.specs.Changes.{Changed}
+use Rattle.lent.specs.Buffer.{storedNumber, Cleared}
+use Rattle.lent.specs.Work.{rowsSpan, marksSpan, numbersSpan, Laid}
+use Rattle.lent.proofs.Buffer.{number-same, stored-there}
+use Rattle.lent.proofs.Changes.{changed-none, changed-wider, changed-then, changed-set, changed-stored, number-other}
+use Rattle.lent.proofs.Work.{marks-inside, numbers-inside}
+use Rattle.dense.proofs.Dense.{rows-kept}
+use Rattle.elimination.specs.Reduced.{isUnmarked, isFree, isUsed, rowOf, MarkedBefore, EndsAt, isAdded}
+use Rattle.elimination.specs.Reduced.{ColumnCleared, EliminatedFrom, Eliminated}
 use Rattle.elimination.proofs.Cleared.{rows}
 
 -- whether a column is a check column
@@ -39,23 +44,20 @@ InvOf a m work j = Inv (a .checks) (a .gross) m (isCheck a m) (rows a work) (isU
 -- the columns from j on are eliminated, and only rows, marks and numbers are changed
 pub record Eliminating (a : Areas) (j : ℕ) (before after : List ℕ) : Type 0 where
   pub left : j ≤ a .gross
-  pub changed : ChangedInBoth (a .marks + a .checks) (a .numbers) (a .numbers + 2 * a .gross) before after
-  row-kept : RowKept a before after
+  pub changed : Changed (rowsSpan a ∷ marksSpan a ∷ numbersSpan a ∷ []) before after
   whole : EliminatedFrom a (rows a before) j after
 
 -- Before the first step no row is marked.
-pub eliminating-start : {a : Areas} {before after : List ℕ} → Laid a (length before) → Cleared (a .marks) (a .marks + a .checks) before after
-    → Eliminating a (a .gross) before after
+pub eliminating-start : {a : Areas} {before after : List ℕ} → Laid a (length before)
+    → Cleared (a .marks) (a .marks + a .checks) before after → Eliminating a (a .gross) before after
 eliminating-start {a} {before} {after} l c =
     let m : BitMatrix = rows a before in
     record {
       left = omega arith;
-      changed = both-front (both-none (a .marks + a .checks) (a .numbers) (a .numbers + 2 * a .gross) before) (c .changed) (omega arith)
-          (omega (arith, l .marks-end, l .word-end));
-      row-kept = λ i g h. c .changed .front i h;
+      changed = changed-wider (c .changed) (λ q o. (o .1 .0, tt));
       whole = record {
         reduced = start (a .checks) (a .gross) m (isCheck a m) (rows a after) (isUsed a after) (rowOf a after)
-            (rows-kept l before after (a .marks) (rows-front l) (c .changed .front))
+            (rows-kept l (c .changed) (λ q h. omega arith))
             (λ i h. ap (λ (v : ℕ). not (eqb v 0)) (c .zero-in (a .marks + i) (omega arith) (omega arith)));
         judged = λ x h g. absurd (omega arith);
         most = λ x h g. absurd (omega arith);
@@ -65,7 +67,7 @@ eliminating-start {a} {before} {after} l c =
 
 -- after the last step
 pub eliminating-all : {a : Areas} {before after : List ℕ} → Eliminating a 0 before after → Eliminated a before after
-eliminating-all e = record { changed = e .changed; row-kept = e .row-kept; whole = e .whole }
+eliminating-all e = record { changed = e .changed; whole = e .whole }
 
 -- ---- the step of column j
 
@@ -79,15 +81,17 @@ module _ {a : Areas} {j pivot : ℕ} {before work : List ℕ} (l : Laid a (lengt
   abbrev noted : List ℕ
   noted = storedNumber work (a .numbers + 2 * j) pivot
 
-  -- rows and marks are as before
-  early : (i : ℕ) → i < a .numbers → getD noted i 0 ≡ getD work i 0
-  early i h = stored-other work (a .numbers + 2 * j) pivot i (λ f. omega arith) (λ f. omega arith)
+  number-noted : Changed (numbersSpan a ∷ []) work noted
+  number-noted =
+      changed-stored (changed-none (numbersSpan a ∷ []) work) (a .numbers + 2 * j) pivot
+      (λ o. omega (arith, o .0 (omega arith), e .left)) (λ o. omega (arith, o .0 (omega arith), e .left))
 
+  -- rows and marks are as before
   noted-bits : (i : ℕ) → i < a .checks → (c : ℕ) → c < a .gross → rows a noted i c ≡ rows a work i c
-  noted-bits = rows-kept l work noted (a .numbers) (omega (arith, l .rows-end, l .marks-end, l .word-end)) early
+  noted-bits = rows-kept l number-noted (λ q h. omega arith)
 
   noted-mark : (i : ℕ) → i < a .checks → getD noted (a .marks + i) 0 ≡ getD work (a .marks + i) 0
-  noted-mark i h = early (a .marks + i) (omega (arith, l .marks-end, l .word-end))
+  noted-mark i h = number-noted .kept (a .marks + i) (omega arith)
 
   noted-unmarked : (i : ℕ) → i < a .checks → isUnmarked a noted i ≡ isUnmarked a work i
   noted-unmarked i h = ap (λ (v : ℕ). eqb v 0) (noted-mark i h)
@@ -97,28 +101,19 @@ module _ {a : Areas} {j pivot : ℕ} {before work : List ℕ} (l : Laid a (lengt
 
   -- the numbers of later columns are as before
   noted-later : (c : ℕ) → j < c → rowOf a noted c ≡ rowOf a work c
-  noted-later c h =
-      number-same work noted (a .numbers + 2 * c)
-      (stored-other work (a .numbers + 2 * j) pivot (a .numbers + 2 * c) (λ f. omega arith) (λ f. omega arith))
-      (stored-other work (a .numbers + 2 * j) pivot (a .numbers + 2 * c + 1) (λ f. omega arith) (λ f. omega arith))
+  noted-later c h = number-other work (a .numbers) j pivot c (λ f. omega arith)
 
   -- that of column j is the row found
   noted-row : rowOf a noted j ≡ pivot
-  noted-row = stored-there work (a .numbers + 2 * j) pivot (omega (arith, l .numbers-end, l .message-end, e .left, e .changed .long))
+  noted-row = stored-there work (a .numbers + 2 * j) pivot (omega (arith, numbers-inside l, e .left, e .changed .long))
 
-  noted-changed : ChangedInBoth (a .marks + a .checks) (a .numbers) (a .numbers + 2 * a .gross) before noted
-  noted-changed =
-      both-back (e .changed)
-      (changed-stored (changed-none (a .numbers) (a .numbers + 2 * a .gross) work) (a .numbers + 2 * j) pivot (omega arith) (omega (arith, e .left)))
-      (omega arith) (omega arith)
-
-  noted-row-kept : RowKept a before noted
-  noted-row-kept i g h = early i (omega (arith, l .marks-end, l .word-end)) ∙ e .row-kept i g h
+  noted-changed : Changed (rowsSpan a ∷ marksSpan a ∷ numbersSpan a ∷ []) before noted
+  noted-changed = changed-then (e .changed) (changed-wider number-noted (λ q o. o .1 .1))
 
   noted-inv : InvOf a m noted (suc j)
   noted-inv =
-      inv-ext (a .checks) (a .gross) m (isCheck a m) (rows a work) (rows a noted) (isUsed a work) (isUsed a noted) (rowOf a work) (rowOf a noted)
-      (suc j) (e .whole .reduced) noted-bits noted-used (λ c h g. noted-later c (omega arith))
+      inv-ext (a .checks) (a .gross) m (isCheck a m) (rows a work) (rows a noted) (isUsed a work) (isUsed a noted)
+      (rowOf a work) (rowOf a noted) (suc j) (e .whole .reduced) noted-bits noted-used (λ c h g. noted-later c (omega arith))
 
   noted-judged : (c : ℕ) → j < c → c < a .gross → ltb (rowOf a noted c) (a .checks) ≡ isCheck a m c
   noted-judged c h g = ap (λ (x : ℕ). ltb x (a .checks)) (noted-later c h) ∙ e .whole .judged c (omega arith) g
@@ -144,7 +139,7 @@ module _ {a : Areas} {j pivot : ℕ} {before work : List ℕ} (l : Laid a (lengt
     -- the column is 0 in all unused rows
     zeros : (i : ℕ) → i < a .checks → isUsed a noted i ≡ false → rows a noted i j ≡ false
     zeros i h u =
-        let unmarked : eqb (getD work (a .marks + i) 0) 0 ≡ true = not-false (eqb (getD work (a .marks + i) 0) 0) (sym (noted-used i h) ∙ u) in
+        let unmarked : isUnmarked a work i ≡ true = not-false (isUnmarked a work i) (sym (noted-used i h) ∙ u) in
         noted-bits i h j (omega (arith, e .left))
         ∙ sym (ap (λ (b : Bool). b && rows a work i j) unmarked)
         ∙ lowest-before (isFree a work j) (a .checks) 0 i (omega arith) (omega arith)
@@ -159,7 +154,6 @@ module _ {a : Areas} {j pivot : ℕ} {before work : List ℕ} (l : Laid a (lengt
         record {
           left = omega (arith, e .left);
           changed = noted-changed;
-          row-kept = noted-row-kept;
           whole = record {
             reduced = clear-step (a .checks) (a .gross) m (isCheck a m) (rows a noted) (isUsed a noted) (rowOf a noted) j
                 noted-inv message-column zeros;
@@ -184,7 +178,7 @@ module _ {a : Areas} {j pivot : ℕ} {before work : List ℕ} (l : Laid a (lengt
     unused = noted-used pivot less ∙ ap not (and-left (eqb (getD work (a .marks + pivot) 0) 0) (rows a work pivot j) free)
 
     one : rows a noted pivot j ≡ true
-    one = noted-bits pivot less j (omega (arith, e .left)) ∙ and-right (eqb (getD work (a .marks + pivot) 0) 0) (rows a work pivot j) free
+    one = noted-bits pivot less j (omega (arith, e .left)) ∙ and-right (isUnmarked a work pivot) (rows a work pivot j) free
 
     check-column : isCheck a m j ≡ true
     check-column =
@@ -221,16 +215,17 @@ module _ {a : Areas} {j pivot : ℕ} {before work : List ℕ} (l : Laid a (lengt
       abbrev marked : List ℕ
       marked = set later (a .marks + pivot) 1
 
+      marked-changed : Changed (marksSpan a ∷ []) later marked
+      marked-changed = changed-set (changed-none (marksSpan a ∷ []) later) (a .marks + pivot) 1 (λ o. omega (arith, o .0 (omega arith)))
+
       -- the mark stands behind the rows
       marked-bits : (i : ℕ) → i < a .checks → (c : ℕ) → c < a .gross
           → rows a marked i c ≡ xor (rows a noted i c) (isAdded a noted pivot j i && rows a noted pivot c)
-      marked-bits i h c g =
-          rows-kept l later marked (a .marks) (rows-front l) (λ q b. getD-set-other later (a .marks + pivot) q 1 0 (λ f. omega arith)) i h c g
-          ∙ d .bits i h c g
+      marked-bits i h c g = rows-kept l marked-changed (λ q b. omega arith) i h c g ∙ d .bits i h c g
 
       -- behind the rows only the mark is changed
       beyond : (i : ℕ) → a .marks ≤ i → (i ≡ a .marks + pivot → ⊥) → getD marked i 0 ≡ getD noted i 0
-      beyond i h other = getD-set-other later (a .marks + pivot) i 1 0 other ∙ d .changed .behind i (omega (arith, rows-front l))
+      beyond i h other = getD-set-other later (a .marks + pivot) i 1 0 other ∙ d .changed .kept i (omega arith)
 
       -- the mark of the pivot row
       mark : getD marked (a .marks + pivot) 0 ≡ 1
@@ -250,7 +245,6 @@ module _ {a : Areas} {j pivot : ℕ} {before work : List ℕ} (l : Laid a (lengt
       -- the numbers stay
       marked-row : (c : ℕ) → rowOf a marked c ≡ rowOf a noted c
       marked-row c =
-          let behind : a .marks + pivot < a .numbers = omega (arith, l .marks-end, l .word-end) in
           number-same noted marked (a .numbers + 2 * c)
           (beyond (a .numbers + 2 * c) (omega arith) (λ f. omega arith)) (beyond (a .numbers + 2 * c + 1) (omega arith) (λ f. omega arith))
 
@@ -259,18 +253,17 @@ module _ {a : Areas} {j pivot : ℕ} {before work : List ℕ} (l : Laid a (lengt
           record {
             left = omega (arith, e .left);
             changed =
-                both-front (both-front noted-changed (d .changed) (omega (arith, rows-front l)) (omega (arith, l .marks-end, l .word-end)))
-                (changed-set (changed-none (a .marks) (a .marks + a .checks) later) (a .marks + pivot) 1 (omega arith) (omega arith))
-                (omega arith) (omega (arith, l .marks-end, l .word-end));
-            row-kept = λ i g h.
-                getD-set-other later (a .marks + pivot) i 1 0 (λ f. omega arith) ∙ d .changed .behind i g ∙ noted-row-kept i g h;
+                changed-then (changed-then noted-changed (changed-wider (d .changed) (λ q o. (o .0, tt))))
+                (changed-wider marked-changed (λ q o. (o .1 .0, tt)));
             whole = record {
               reduced = pivot-step (a .checks) (a .gross) m (isCheck a m) (rows a noted) (isUsed a noted) (rowOf a noted)
                   j (omega (arith, e .left)) noted-inv check-column pivot less unused one
-                  (isAdded a noted pivot j) own-not used-not free-is (rows a marked) (isUsed a marked) (rowOf a marked) marked-bits marked-used (λ c h g. marked-row c) (marked-row j ∙ noted-row);
+                  (isAdded a noted pivot j) own-not used-not free-is (rows a marked) (isUsed a marked) (rowOf a marked)
+                  marked-bits marked-used (λ c h g. marked-row c) (marked-row j ∙ noted-row);
               judged = λ c h g.
                   elim (ℕ-discrete c j) [
-                    | yes same ↦ rw same (lt-ltb (rowOf a marked j) (a .checks) (omega (arith, marked-row j, noted-row)) ∙ sym check-column)
+                    | yes same ↦
+                        rw same (lt-ltb (rowOf a marked j) (a .checks) (omega (arith, marked-row j, noted-row)) ∙ sym check-column)
                     | no other ↦ ap (λ (x : ℕ). ltb x (a .checks)) (marked-row c) ∙ noted-judged c (omega arith) g
                   ];
               most = λ c h g. omega (arith, marked-row c, noted-most c h g);
@@ -283,7 +276,8 @@ module _ {a : Areas} {j pivot : ℕ} {before work : List ℕ} (l : Laid a (lengt
           }
 
       -- a row that had a mark has one
-      pub marked-before : {first : ℕ} → first ≤ a .checks → MarkedBefore a work first → MarkedBefore a (set later (a .marks + pivot) 1) first
+      pub marked-before : {first : ℕ} → first ≤ a .checks → MarkedBefore a work first
+          → MarkedBefore a (set later (a .marks + pivot) 1) first
       marked-before h m i g =
           elim (ℕ-discrete i pivot) [
             | yes same ↦ rw same (ap (λ (v : ℕ). eqb v 0) mark)

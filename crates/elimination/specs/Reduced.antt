@@ -3,14 +3,16 @@
 use Prim.Native.Nat.{ℕ, _+_, _*_, _≤_, _<_}
 use mathlib.Core.Path.{_≡_}
 use mathlib.Core.Bool.{Bool, false, not, _&&_, xor}
-use mathlib.Core.List.{List}
+use mathlib.Core.List.{List, [], _∷_}
 use lib.Dec.{ltb, eqb}
 use lib.ListN.{getD}
 use Rattle.symbology.specs.Matrix.{BitMatrix}
 use Rattle.symbology.specs.Codeword.{isCheckColumn}
 use Rattle.laws.specs.Elimination.{Inv}
 use Rattle.lent.specs.declared.Areas.{Areas}
-use Rattle.lent.specs.Buffer.{numberAt, ChangedIn, ChangedInBoth}
+use Rattle.lent.specs.Changes.{Changed}
+use Rattle.lent.specs.Buffer.{numberAt}
+use Rattle.lent.specs.Work.{rowsSpan, marksSpan, numbersSpan}
 use Rattle.dense.specs.Dense.{denseBits}
 
 -- row i has no mark
@@ -43,7 +45,7 @@ isAdded a work pivot j i = ltb pivot i && isFree a work j i
 
 -- the row `pivot` is added to the rows that it is to be added to
 pub record ColumnCleared (a : Areas) (pivot j : ℕ) (before after : List ℕ) : Type 0 where
-  pub changed : ChangedIn 0 (a .checks * a .stride) before after
+  pub changed : Changed (rowsSpan a ∷ []) before after
   pub bits : (i : ℕ)
       → i < a .checks
       → (c : ℕ)
@@ -62,14 +64,9 @@ pub record EliminatedFrom (a : Areas) (m : BitMatrix) (j : ℕ) (work : List ℕ
   pub most : (c : ℕ) → j ≤ c → c < a .gross → rowOf a work c ≤ a .checks
   pub marks : (i : ℕ) → i < a .checks → getD work (a .marks + i) 0 ≤ 1
 
--- what lies between the rows and the marks, the row behind the rows, is as before
-abbrev pub RowKept : Areas → List ℕ → List ℕ → Type 0
-RowKept a before after = (i : ℕ) → a .checks * a .stride ≤ i → i < a .marks → getD after i 0 ≡ getD before i 0
-
 -- All columns of the matrix in the buffer are eliminated; only rows, marks and numbers are changed.
 pub record Eliminated (a : Areas) (before after : List ℕ) : Type 0 where
-  pub changed : ChangedInBoth (a .marks + a .checks) (a .numbers) (a .numbers + 2 * a .gross) before after
-  pub row-kept : RowKept a before after
+  pub changed : Changed (rowsSpan a ∷ marksSpan a ∷ numbersSpan a ∷ []) before after
   pub whole : EliminatedFrom a (denseBits before (a .stride)) 0 after
 
 -- the buffer holds the elimination of some matrix

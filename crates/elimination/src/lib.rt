@@ -9,7 +9,7 @@ ghost use Prim.Native.Nat.{_≤_, _<_};
 ghost use mathlib.Core.Path.{_≡_};
 ghost use lib.ListN.{length};
 ghost use Rattle.symbology.specs.Ranges.{lowest};
-ghost use Rattle.lent.specs.Buffer.{Laid};
+ghost use Rattle.lent.specs.Work.{Laid};
 ghost use Rattle.elimination.specs.Reduced.{isUnmarked, isFree, MarkedBefore, EndsAt, ColumnCleared, Eliminated};
 
 // The first row without a mark, and the number of rows where there is none. The rows before `from` have marks.

@@ -34,7 +34,8 @@ twice p l work modules =
     let long : length once ≡ length work = length-work p l work modules in
     by (isLegal p l modules (length work))
     (λ e.
-    work-cleared p l once modules (ap (isLegal p l modules) long ∙ e) ∙ ap (λ (n : ℕ). replicate n 0) long ∙ sym (work-cleared p l work modules e))
+    work-cleared p l once modules (ap (isLegal p l modules) long ∙ e) ∙ ap (λ (n : ℕ). replicate n 0) long
+    ∙ sym (work-cleared p l work modules e))
     (λ e. work-untouched p l once modules (ap (isLegal p l modules) long ∙ e))
 
 module _ (p : Params) (l message matrix work back : List ℕ) {a : Answer} {matrix′ work′ : List ℕ}
@@ -59,9 +60,10 @@ module _ (p : Params) (l message matrix work back : List ℕ) {a : Answer} {matr
       → WritesThenReads p l message matrix work back r matrix′ work′ back
   unfolding answerReadBack
   not-written {r} some is =
-      let given : cond (eqb (defined .number) 0) read (refused (defined .number) (defined .place)) ≡ refused (defined .number) (defined .place) =
+      let denied : ReadAnswer = refused (defined .number) (defined .place) in
+      let given : cond (eqb (defined .number) 0) read denied ≡ denied =
       rw (ne-eqb (defined .number) 0 (λ z. some (number-is ∙ z))) refl in
-      let told : r ≡ refused (defined .number) (defined .place) = is ∙ ap (λ (b : Answer). refused (b .number) (b .place)) (w .answer-is) in
+      let told : r ≡ denied = is ∙ ap (λ (b : Answer). refused (b .number) (b .place)) (w .answer-is) in
       let other : r .number ≡ 0 → ⊥ = λ z. some (sym (ap (λ (b : ReadAnswer). b .number) is) ∙ z) in
       record {
         answer-is = told ∙ sym given;

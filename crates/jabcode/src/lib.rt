@@ -3,10 +3,12 @@
 // the answer and every lent buffer by equality with a definition: `Writes`, `Reads` and `WritesThenReads` in
 // `calls` have a field for each.
 //
-// `write` and `read` make the tests 1 to 5 and hand legal input on to the crates of their stages.
+// `write` and `read` make the tests 1 to 5 and hand legal input on to the crates of their stages, with the
+// sizes of the symbol.
 use calls::Answer;
 use calls::ReadAnswer;
 use calls::SizesAnswer;
+use legality::Verdict;
 use symbology::Params;
 ghost use mathlib.Core.Path.{_≡_};
 ghost use Rattle.symbology.specs.Stream.{streamOf};
@@ -26,11 +28,11 @@ pub fn sizes(p: Params, list: &[u16]) -> SizesAnswer
 pub fn write(p: Params, list: &[u16], message: &[u8], matrix: &mut [u8], work: &mut [u8]) -> Answer
     ensures writes { λ r. ⌜ Writes p (now (list .entry)) (streamOf (now (message .entry))) (now (matrix .entry)) (now (work .entry)) r (now (matrix .exit)) (now (work .exit)) ⌝ }
 {
-    let first = legality::front_tests(p, list, matrix.len(), work.len());
-    if first.number != 0 {
-        return first;
+    let tested = legality::front_tests(p, list, matrix.len(), work.len());
+    match tested {
+        Verdict::Legal(s) => symbol_writer::write_legal(p, list, message, matrix, work, s),
+        Verdict::Refused(first) => first,
     }
-    symbol_writer::write_legal(p, list, message, matrix, work)
 }
 
 // Reads a sampled matrix. On 0 the first bytes of the message buffer are the message, as many as the answer
@@ -45,11 +47,11 @@ pub fn read(
 ) -> ReadAnswer
     ensures reads { λ r. ⌜ Reads p (now (list .entry)) (now (matrix .entry)) (now (work .entry)) (now (message .entry)) r (now (work .exit)) (now (message .exit)) ⌝ }
 {
-    let first = legality::front_tests(p, list, matrix.len(), work.len());
-    if first.number != 0 {
-        return calls::refused(first.number, first.place);
+    let tested = legality::front_tests(p, list, matrix.len(), work.len());
+    match tested {
+        Verdict::Legal(s) => symbol_reader::read_legal(p, list, matrix, work, message, s),
+        Verdict::Refused(first) => calls::refused(first.number, first.place),
     }
-    symbol_reader::read_legal(p, list, matrix, work, message)
 }
 
 // Writes a message and reads the matrix with the same parameters and list, so that a label is seen to read

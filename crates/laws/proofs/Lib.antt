@@ -6,6 +6,7 @@ pub mod Search
 pub mod Sums
 pub mod Bits
 pub mod Counting
+pub mod Stores
 pub mod Parameters
 -- layout
 pub mod Windows

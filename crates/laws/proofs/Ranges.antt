@@ -116,18 +116,24 @@ lowest-none f n j h =
       | no l ↦ omega (arith, lowest-to f n j)
     ]
 
+-- the number at which it holds, or the end, where it holds at none before
+pub lowest-is : (f : ℕ → Bool) (n j k : ℕ) → j ≤ k → k ≤ j + n → ((i : ℕ) → j ≤ i → i < k → f i ≡ false) → (k < j + n → f k ≡ true)
+    → lowest f n j ≡ k
+lowest-is f n j k h g none here =
+    elim (decLt (lowest f n j) k) [
+      | yes l ↦ clash (lowest-holds f n j (omega arith)) (none (lowest f n j) (lowest-from f n j) l)
+      | no l ↦
+          elim (decLt k (lowest f n j)) [
+            | yes m ↦ clash (here (omega (arith, lowest-to f n j))) (lowest-before f n j k h m)
+            | no m ↦ omega arith
+          ]
+    ]
+
 pub lowest-ext : (f g : ℕ → Bool) (n j : ℕ) → ((i : ℕ) → j ≤ i → i < j + n → f i ≡ g i) → lowest f n j ≡ lowest g n j
 unfolding lowest
 lowest-ext f g zero j h = refl
 lowest-ext f g (suc n) j h =
     rw (h j (omega arith) (omega arith), lowest-ext f g n (suc j) (λ i a b. h i (omega arith) (omega arith)))
-
-pub lowest-is : (f : ℕ → Bool) (n j : ℕ) → j < n → f j ≡ true → ((i : ℕ) → i < j → f i ≡ false) → lowest f n 0 ≡ j
-lowest-is f n j h t none =
-    elim (decLt (lowest f n 0) j) [
-      | yes l ↦ clash (lowest-holds f n 0 (omega arith)) (none (lowest f n 0) l)
-      | no l ↦ elim (decLt j (lowest f n 0)) [ yes k ↦ clash t (lowest-before f n 0 j (omega arith) k) | no k ↦ omega arith ]
-    ]
 
 -- a search finds a number below its end where the test holds at one of them
 pub lowest-some : (f : ℕ → Bool) (n i : ℕ) → i < n → f i ≡ true → lowest f n 0 < n

@@ -169,8 +169,9 @@ suspect-lowest cs w h =
 pub lowest-suspect : (cs : List (List ℕ)) (w : List ℕ) (j : ℕ) → LowestSuspect cs w j → suspect cs w ≡ j
 unfolding suspect isSuspect
 lowest-suspect cs w j s =
-    lowest-is (isSuspect cs w) (length w) j (s .inside) (lt-ltb (metAt cs w j) (unmetAt cs w j) (s .suspected))
-    (λ i l. le-ltb (metAt cs w i) (unmetAt cs w i) (s .none-below i l))
+    lowest-is (isSuspect cs w) (length w) 0 j (omega arith) (omega (arith, s .inside))
+    (λ i h l. le-ltb (metAt cs w i) (unmetAt cs w i) (s .none-below i l))
+    (λ h. lt-ltb (metAt cs w j) (unmetAt cs w j) (s .suspected))
 
 -- Where the search gives the word's length, no bit is suspect.
 pub suspect-none : (cs : List (List ℕ)) (w : List ℕ) → suspect cs w ≡ length w → (j : ℕ) → j < length w → unmetAt cs w j ≤ metAt cs w j

@@ -1,7 +1,7 @@
 -- A matrix filled module by module, column by column from the left, each downwards. Columns and rows count from 0.
 -- Assumes nothing.
 use Prim.Native.Nat.{ℕ, _+_, _*_, _/_, _%_, _<_}
-use mathlib.Core.Path.{_≡_, sym, _∙_}
+use mathlib.Core.Path.{_≡_, refl, sym, _∙_}
 use mathlib.Core.List.{List}
 use mathlib.Core.Logic.{inl, inr, ⊎-elim}
 use native.Mathlib.Decide.{ℕ-discrete, decLt}
@@ -9,11 +9,12 @@ use native.Mathlib.Nat.{mod-lt, div-add-mod', div-lt-iff-lt-mul}
 use native.Mathlib.Omega.{arith}
 use lib.Arith.{digits-lt, digits-div, digits-mod}
 use lib.ListN.{length, set, length-set}
-use lib.Seq.{getD-set-same, getD-set-other, ext-getD}
+use lib.Seq.{ext-getD}
 use Rattle.symbology.specs.declared.Params.{Params}
 use Rattle.symbology.specs.Sides.{columns, rows}
 use Rattle.symbology.specs.Placement.{moduleAt, filled}
 use Rattle.laws.proofs.Placement.{length-filled, getD-index}
+use Rattle.laws.proofs.Stores.{store-each}
 use Rattle.layout.specs.Walk.{Before, FilledTo}
 
 -- before the first module nothing is asked for
@@ -49,15 +50,12 @@ module _ {p : Params} {l bs matrix : List ℕ} where
   filled-next {c} {r} f h k =
       record {
         whole = length-set matrix (r * columns p + c) (moduleAt p l bs c r) ∙ f .whole;
-        passed = λ i inside b.
-            elim (ℕ-discrete i (r * columns p + c)) [
-              | yes e ↦
-                  rw (e, digits-mod r h, digits-div r h)
-                  (getD-set-same matrix (r * columns p + c) (moduleAt p l bs c r) 0 (rw (f .whole) (digits-lt k h)))
-              | no e ↦
-                  getD-set-other matrix (r * columns p + c) i (moduleAt p l bs c r) 0 e
-                  ∙ f .passed i inside (earlier (columns p) i c r e b)
-            ];
+        passed =
+            let w : ℕ = columns p in
+            store-each (λ i v. i < rows p * w → Before (i % w) (i / w) c (r + 1) → v ≡ moduleAt p l bs (i % w) (i / w))
+            matrix (r * columns p + c) (moduleAt p l bs c r) (rw (f .whole) (digits-lt k h))
+            (λ i e inside b. f .passed i inside (earlier (columns p) i c r e b))
+            (λ inside b. rw (digits-mod r h, digits-div r h) refl);
       }
 
   -- the column c is filled

@@ -1,17 +1,16 @@
--- Parts of a buffer, as lists and as code lends them and gets them back; numbers of two bytes stored and read; places that stay as they
--- were, and places that are cleared.
+-- Parts of a buffer, as lists and as code lends them and gets them back, and numbers of two bytes stored and read.
 -- Assumes nothing.
 use Prim.Native.Nat.{ℕ, _+_, _-_, _*_, _/_, _%_, _≤_, _<_}
-use mathlib.Core.Path.{_≡_, refl, sym, ap, ap₂, _∙_}
-use mathlib.Core.List.{List, _++_}
+use mathlib.Core.Path.{_≡_, sym, ap, ap₂, _∙_}
+use mathlib.Core.List.{List, [], _∷_, _++_}
 use native.Mathlib.Decide.{decLt, ℕ-discrete}
 use native.Mathlib.Omega.{arith}
-use lib.ListN.{length, getD, take, drop, set, replicate, length-set, length-drop, length-append, length-replicate, List·getD-append, getD-replicate, List·getD-eq-default}
+use lib.ListN.{length, getD, take, drop, set, length-set, length-drop, List·getD-append, List·getD-eq-default}
 use lib.Seq.{length-take-le, getD-take, getD-drop, getD-set-same, getD-set-other, getD-append-add, take-at, drop-at, take-take, ext-getD}
 use borrow.Rule.Slice.PartMut.{putMid, same-len-mid}
 use Rattle.laws.proofs.Ranges.{length-tabulate, getD-tabulate, tabulate-ext}
-use Rattle.lent.specs.Buffer.{part, numberAt, numbersAt, storedNumber, ChangedIn, ChangedInBoth, Cleared, Laid}
-use Rattle.lent.specs.declared.Areas.{Areas}
+use Rattle.lent.specs.Changes.{span, Changed}
+use Rattle.lent.specs.Buffer.{part, numberAt, numbersAt, storedNumber}
 
 -- ---- parts
 
@@ -83,7 +82,9 @@ pub numbers-same : (xs ys : List ℕ) (at n : ℕ) → ((i : ℕ) → at ≤ i �
 unfolding numbersAt
 numbers-same xs ys at n same =
     tabulate-ext n (λ i. numberAt ys (at + 2 * i)) (λ i. numberAt xs (at + 2 * i))
-    (λ i h. number-same xs ys (at + 2 * i) (same (at + 2 * i) (omega arith) (omega arith)) (same (at + 2 * i + 1) (omega arith) (omega arith)))
+    (λ i h.
+    let place : ℕ = at + 2 * i in
+    number-same xs ys place (same place (omega arith) (omega arith)) (same (place + 1) (omega arith) (omega arith)))
 
 pub length-stored : (xs : List ℕ) (at v : ℕ) → length (storedNumber xs at v) ≡ length xs
 unfolding storedNumber
@@ -126,45 +127,6 @@ stored-numbers xs at n j v h room =
           ∙ sym (getD-set-other (numbersAt xs at n) j i v 0 e ∙ numbers-at xs at n i inside)
     ])
 
--- ---- places that stay
-
-pub changed-none : (from to : ℕ) (xs : List ℕ) → ChangedIn from to xs xs
-changed-none from to xs = record { long = refl; front = λ i h. refl; behind = λ i h. refl }
-
-module _ {from to : ℕ} {before after : List ℕ} (c : ChangedIn from to before after) where
-  -- a larger area
-  pub changed-wider : {from′ to′ : ℕ} → from′ ≤ from → to ≤ to′ → ChangedIn from′ to′ before after
-  changed-wider h g =
-      record { long = c .long; front = λ i l. c .front i (omega arith); behind = λ i l. c .behind i (omega arith) }
-
-  -- a store inside the area
-  pub changed-set : (i v : ℕ) → from ≤ i → i < to → ChangedIn from to before (set after i v)
-  changed-set i v h g =
-      record {
-        long = length-set after i v ∙ c .long;
-        front = λ p l. getD-set-other after i p v 0 (λ e. omega arith) ∙ c .front p l;
-        behind = λ p l. getD-set-other after i p v 0 (λ e. omega arith) ∙ c .behind p l;
-      }
-
-  -- a number stored inside the area
-  pub changed-stored : (i v : ℕ) → from ≤ i → i + 2 ≤ to → ChangedIn from to before (storedNumber after i v)
-  changed-stored i v h g =
-      record {
-        long = length-stored after i v ∙ c .long;
-        front = λ p l. stored-other after i v p (λ e. omega arith) (λ e. omega arith) ∙ c .front p l;
-        behind = λ p l. stored-other after i v p (λ e. omega arith) (λ e. omega arith) ∙ c .behind p l;
-      }
-
-  -- a change inside a change
-  pub changed-then : {from′ to′ : ℕ} {later : List ℕ} → ChangedIn from′ to′ after later → from ≤ from′ → to′ ≤ to
-      → ChangedIn from to before later
-  changed-then d h g =
-      record {
-        long = d .long ∙ c .long;
-        front = λ p l. d .front p (omega arith) ∙ c .front p l;
-        behind = λ p l. d .behind p (omega arith) ∙ c .behind p l;
-      }
-
 -- ---- a part that was lent and came back
 
 module _ (at n : ℕ) (xs ys : List ℕ) (room : at + n ≤ length xs) (long : length ys ≡ n) where
@@ -179,24 +141,28 @@ module _ (at n : ℕ) (xs ys : List ℕ) (room : at + n ≤ length xs) (long : l
       ap (take n) (drop-at front (ys ++ rest) at (length-take-le at xs (omega arith))) ∙ take-at ys rest n long
 
   -- all else is as it was
-  pub changed-put : ChangedIn at (at + n) xs (putMid at n xs ys)
+  pub changed-put : Changed (span at (at + n) ∷ []) xs (putMid at n xs ys)
   changed-put =
       let front : List ℕ = take at xs in
       let rest : List ℕ = drop n (drop at xs) in
       let short : length front ≡ at = length-take-le at xs (omega arith) in
       record {
         long = length-put;
-        front = λ i h. List·getD-append front (ys ++ rest) 0 i (omega arith) ∙ getD-take at xs i 0 h;
-        behind = λ i h.
-            let k : ℕ = i - (at + n) in
-            let place : i ≡ length front + (length ys + k) = omega arith in
-            let inside : at + (n + k) ≡ i = omega arith in
-            ap (λ (j : ℕ). getD (front ++ (ys ++ rest)) j 0) place
-            ∙ getD-append-add front (ys ++ rest) (length ys + k) 0
-            ∙ getD-append-add ys rest k 0
-            ∙ getD-drop n (drop at xs) k 0
-            ∙ getD-drop at xs (n + k) 0
-            ∙ ap (λ (j : ℕ). getD xs j 0) inside;
+        kept = λ i o.
+            elim (decLt i at) [
+              | yes h ↦ List·getD-append front (ys ++ rest) 0 i (omega arith) ∙ getD-take at xs i 0 h
+              | no h ↦
+                  let behind : at + n ≤ i = o .0 (omega arith) in
+                  let k : ℕ = i - (at + n) in
+                  let place : i ≡ length front + (length ys + k) = omega arith in
+                  let inside : at + (n + k) ≡ i = omega arith in
+                  ap (λ (j : ℕ). getD (front ++ (ys ++ rest)) j 0) place
+                  ∙ getD-append-add front (ys ++ rest) (length ys + k) 0
+                  ∙ getD-append-add ys rest k 0
+                  ∙ getD-drop n (drop at xs) k 0
+                  ∙ getD-drop at xs (n + k) 0
+                  ∙ ap (λ (j : ℕ). getD xs j 0) inside
+            ];
       }
 
 -- the buffer after a list came back for the n places from a place on, as code lends them
@@ -221,89 +187,3 @@ module _ (at n : ℕ) (xs ys : List ℕ) (room : at + n ≤ length xs) (long : l
       ap (part (givenBack at n xs ys) (at + k)) rest
       ∙ sym (part-behind (givenBack at n xs ys) at n k h (omega (arith, length-back)))
       ∙ ap (drop k) part-back
-
--- ---- clearing
-
--- the places up to i are cleared
-pub cleared-start : (from : ℕ) (xs : List ℕ) → Cleared from from xs xs
-cleared-start from xs = record { changed = changed-none from from xs; zero-in = λ i h g. absurd (omega arith) }
-
-pub cleared-next : {from i : ℕ} {before after : List ℕ} → Cleared from i before after → from ≤ i → i < length before
-    → Cleared from (i + 1) before (set after i 0)
-cleared-next {from} {i} {before} {after} c h g =
-    record {
-      changed = changed-set (changed-wider (c .changed) (omega arith) (omega arith)) i 0 h (omega arith);
-      zero-in = λ p l m.
-          elim (ℕ-discrete p i) [
-            | yes e ↦ rw e (getD-set-same after i 0 0 (omega (arith, c .changed .long)))
-            | no e ↦ getD-set-other after i p 0 0 e ∙ c .zero-in p l (omega arith)
-          ];
-    }
-
--- a buffer whose places from `from` on are cleared
-pub cleared-rest : (from : ℕ) (xs ys : List ℕ) → from ≤ length xs → Cleared from (length xs) xs ys → ys ≡ take from xs ++ replicate (length xs - from) 0
-cleared-rest from xs ys h c =
-    let front : List ℕ = take from xs in
-    let zeros : List ℕ = replicate (length xs - from) 0 in
-    let long : length front ≡ from = length-take-le from xs h in
-    ext-getD 0 ys (front ++ zeros) (c .changed .long ∙ omega (arith, length-append front zeros, length-replicate {A = ℕ} (length xs - from) 0))
-    (λ i g. elim (decLt i from) [
-      | yes l ↦ c .changed .front i l ∙ sym (List·getD-append front zeros 0 i (omega arith) ∙ getD-take from xs i 0 l)
-      | no l ↦
-          let k : ℕ = i - from in
-          let place : i ≡ length front + k = omega arith in
-          c .zero-in i (omega arith) (omega (arith, c .changed .long))
-          ∙ sym (rw place (getD-append-add front zeros k 0 ∙ getD-replicate (length xs - from) k 0 0 (omega (arith, c .changed .long))))
-    ])
-
--- a buffer cleared whole
-pub cleared-whole : (xs ys : List ℕ) {n : ℕ} → length xs ≡ n → Cleared 0 (length xs) xs ys → ys ≡ replicate n 0
-cleared-whole xs ys {n} long c =
-    let same : length xs - 0 ≡ n = omega arith in
-    cleared-rest 0 xs ys (omega arith) c ∙ ap (λ (k : ℕ). replicate {A = ℕ} k 0) same
-
--- ---- two areas
-
-pub both-none : (end from to : ℕ) (xs : List ℕ) → ChangedInBoth end from to xs xs
-both-none end from to xs = record { long = refl; between = λ i h g. refl; behind = λ i h. refl }
-
-module _ {end from to : ℕ} {before after : List ℕ} (c : ChangedInBoth end from to before after) where
-  -- larger areas
-  pub both-wider : {last top : ℕ} → end ≤ last → to ≤ top → ChangedInBoth last from top before after
-  both-wider h g =
-      record { long = c .long; between = λ i p q. c .between i (omega arith) q; behind = λ i p. c .behind i (omega arith) }
-
-  -- a change in both
-  pub both-then : {later : List ℕ} → ChangedInBoth end from to after later → ChangedInBoth end from to before later
-  both-then d =
-      record {
-        long = d .long ∙ c .long;
-        between = λ i p q. d .between i p q ∙ c .between i p q;
-        behind = λ i p. d .behind i p ∙ c .behind i p;
-      }
-
-  -- a change in the first
-  pub both-front : {from′ to′ : ℕ} {later : List ℕ} → ChangedIn from′ to′ after later → to′ ≤ end → end ≤ to
-      → ChangedInBoth end from to before later
-  both-front d h g =
-      record {
-        long = d .long ∙ c .long;
-        between = λ i p q. d .behind i (omega arith) ∙ c .between i p q;
-        behind = λ i p. d .behind i (omega arith) ∙ c .behind i p;
-      }
-
-  -- a change in the second
-  pub both-back : {from′ to′ : ℕ} {later : List ℕ} → ChangedIn from′ to′ after later → from ≤ from′ → to′ ≤ to
-      → ChangedInBoth end from to before later
-  both-back d h g =
-      record {
-        long = d .long ∙ c .long;
-        between = λ i p q. d .front i (omega arith) ∙ c .between i p q;
-        behind = λ i p. d .behind i (omega arith) ∙ c .behind i p;
-      }
-
--- ---- buffers of another length
-
--- Areas lie in a buffer that is as long.
-pub laid-as : {a : Areas} {m n : ℕ} → Laid a n → m ≡ n → Laid a m
-laid-as {a} l e = rw e l

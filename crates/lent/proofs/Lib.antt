@@ -1,2 +1,5 @@
 pub mod Buffer
+pub mod Changes
+pub mod Clearing
 mod Counting
+pub mod Work

@@ -1,1 +1,3 @@
+pub mod Changes
 pub mod Buffer
+pub mod Work

@@ -1,13 +1,14 @@
-// Areas of a lent buffer, numbers of two bytes in it, and clearing. Where the areas of the work buffer lie
-// for the sizes of a symbol is said by `ldpc::areas`.
+// Lent buffers: numbers of two bytes in them, clearing, and the work buffer with its areas.
 //
 // Two parts of one buffer cannot be lent at once where one of them is stored to. So the functions of
-// error correction take the whole work buffer and the places of their areas, and each says where it
-// changes the buffer at most.
+// error correction take the whole work buffer and the places of their areas, and each says in which areas
+// it changes the buffer at most.
+use symbology::Sizes;
 ghost use Prim.Native.Nat.{_+_, _*_, _≤_, _<_};
 ghost use mathlib.Core.Path.{_≡_};
 ghost use lib.ListN.{length};
 ghost use Rattle.lent.specs.Buffer.{numberAt, storedNumber, Cleared, CountedUp};
+ghost use Rattle.lent.specs.Work.{areasOf, CodeSizes};
 
 // The areas of the work buffer. In front lie the dense rows of a check matrix, `checks` rows of
 // `stride` bytes, and one more row, for a word in that form; behind them `checks` marks of a byte
@@ -23,6 +24,28 @@ pub struct Areas {
     pub word: usize,
     pub numbers: usize,
     pub message: usize,
+}
+
+// Where the areas of the work buffer lie for the sizes of a symbol. The area of the word has room for all
+// C bits.
+pub fn areas_for(s: Sizes) -> Areas
+    requires { ⌜ CodeSizes s ⌝ }
+    ensures { λ r. ⌜ r ≡ areasOf s ⌝ }
+{
+    let stride = (s.gross + 7) / 8;
+    let marks = s.checks * stride + stride;
+    let word = marks + s.checks;
+    let numbers = word + s.capacity;
+    Areas {
+        checks: s.checks,
+        gross: s.gross,
+        net: s.net,
+        stride: stride,
+        marks: marks,
+        word: word,
+        numbers: numbers,
+        message: numbers + 2 * s.gross,
+    }
 }
 
 // The number of the two bytes at a place, the lower byte first.

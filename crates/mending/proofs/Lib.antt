@@ -1,5 +1,3 @@
-pub mod Votes
-pub mod Balances
-pub mod Counts
-pub mod Marks
-pub mod Run
+mod Turning
+mod Counts
+mod Run

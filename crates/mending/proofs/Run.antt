@@ -1,6 +1,6 @@
 -- The rule's run as a loop makes it: what is left of the run from the received word is the run from the word now.
 -- Assumes nothing.
-use Prim.Native.Nat.{ℕ, suc, _+_, _*_, _≤_, _<_}
+use Prim.Native.Nat.{ℕ, suc, _+_, _≤_, _<_}
 use mathlib.Core.Path.{_≡_, refl, sym, ap, ap₂, _∙_, subst⁻¹}
 use mathlib.Core.Bool.{false}
 use mathlib.Core.List.{List, [], _∷_}
@@ -14,18 +14,20 @@ use Rattle.symbology.specs.Matrix.{BitMatrix, checkOf, checksOf}
 use Rattle.symbology.specs.Rule.{unmetCount, suspect, turned, ends, repairsOf, lastWord, stuck}
 use Rattle.symbology.specs.Steps.{Ended}
 use Rattle.laws.proofs.Ranges.{length-tabulate}
-use Rattle.laws.proofs.Rule.{AllOnce, checks-once, turned-bits, step-lowers, suspect-to, suspect-lowest, suspect-none, unmet-most, ended-ends}
+use Rattle.laws.proofs.Rule.{AllOnce, checks-once, turned-bits, step-lowers, suspect-to, suspect-lowest, suspect-none, unmet-most}
+use Rattle.laws.proofs.Rule.{ended-ends}
 use Rattle.laws.proofs.Steps.{run-ends, run-goes}
-use Rattle.laws.proofs.Agree.{checks-same}
 use Rattle.lent.specs.declared.Areas.{Areas}
-use Rattle.lent.specs.Buffer.{Laid}
-use Rattle.lent.proofs.Buffer.{length-part, laid-as}
-use Rattle.dense.specs.Dense.{denseBits}
-use Rattle.dense.proofs.Dense.{rows-front, rows-kept}
-use Rattle.mending.specs.Balances.{ChangedBeside, Balanced, Weighed}
-use Rattle.mending.specs.Marks.{wordIn, checksIn, BitsIn, Marked, WordMarked, BitTurned, MendedBy}
-use Rattle.mending.proofs.Balances.{beside-none, beside-front, beside-numbers, beside-wider, beside-then}
-use Rattle.mending.proofs.Marks.{word-kept, marked-kept}
+use Rattle.lent.specs.Changes.{Changed}
+use Rattle.lent.specs.Work.{wordRowSpan, marksSpan, wordSpan, numbersSpan, Laid, wordIn}
+use Rattle.lent.proofs.Buffer.{length-part}
+use Rattle.lent.proofs.Changes.{changed-none, changed-wider, changed-then}
+use Rattle.lent.proofs.Work.{laid-as, word-kept}
+use Rattle.checks.specs.Checks.{standsIn, checksIn}
+use Rattle.checks.proofs.Checks.{checks-kept, unmet-kept}
+use Rattle.syndrome.specs.Syndrome.{Marked, Judged}
+use Rattle.balances.specs.Balances.{Balanced, Weighed}
+use Rattle.mending.specs.Mending.{BitsIn, BitTurned, MendedBy}
 
 -- ---- over words
 
@@ -72,64 +74,64 @@ module _ {cs : List (List ℕ)} {from now : List ℕ} {left repairs : ℕ} (r : 
 
 -- ---- over the work buffer
 
--- No more checks are unmet than there are rows.
+-- No more checks are unmet than there are.
 unmet-few : (k n : ℕ) (a : BitMatrix) (w : List ℕ) → unmetCount (checksOf k n a) w ≤ k
 unfolding checksOf
 unmet-few k n a w = omega (arith, unmet-most (checksOf k n a) w, length-tabulate k (checkOf n a))
 
--- the checks are kept where the rows are
-checks-kept : {a : Areas} {room from to : ℕ} {before after : List ℕ} → Laid a room → a .checks * a .stride ≤ from
-    → ChangedBeside a from to before after → checksIn a after ≡ checksIn a before
-checks-kept {a} {from = from} {before = before} {after = after} laid low c =
-    checks-same (a .checks) (a .gross) (denseBits after (a .stride)) (denseBits before (a .stride))
-    (rows-kept laid before after from low (c .front))
-
 -- marks and balances are made, and nothing else is changed but the row behind the rows
-pub record Ready (a : Areas) (before after : List ℕ) : Type 0 where
-  pub changed : ChangedBeside a (a .checks * a .stride) (a .marks + a .checks) before after
+pub record Ready (a : Areas) (before after : List ℕ) (first : ℕ) : Type 0 where
+  pub changed : Changed (wordRowSpan a ∷ marksSpan a ∷ numbersSpan a ∷ []) before after
   pub marked : Marked a after
   pub balanced : Balanced a after
+  pub first-is : first ≡ unmetCount (checksIn a before) (wordIn a before)
 
-pub ready : {a : Areas} {before middle after : List ℕ} → Laid a (length before) → WordMarked a before middle → Weighed a middle after
-    → Ready a before after
-ready laid m w =
+pub ready : {a : Areas} {before middle after : List ℕ} {first : ℕ} → Laid a (length before) → Judged a before middle first
+    → Weighed a middle after → Ready a before after first
+ready {a} {middle = middle} laid m w =
+    let here : Laid a (length middle) = laid-as laid (m .changed .long) in
     record {
-      changed = beside-then (beside-front (m .changed) (omega arith)) (beside-numbers (w .changed) (omega (arith, laid .rows-end)));
-      marked = marked-kept (laid-as laid (m .changed .long)) (w .changed) (m .marked);
+      changed =
+          changed-then (changed-wider (m .changed) (λ q o. (o .0, (o .1 .0, tt)))) (changed-wider (w .changed) (λ q o. o .1 .1));
+      marked = λ i h.
+          w .changed .kept (a .marks + i) (omega arith)
+          ∙ m .marked i h
+          ∙ sym (unmet-kept here (w .changed) (λ q l g. omega arith) (λ q l g. omega arith) i h);
       balanced = w .balanced;
+      first-is = m .number-is;
     }
 
--- The balances change nothing of what is unmet.
-pub count-kept : {a : Areas} {middle after : List ℕ} {first : ℕ} → Laid a (length middle) → Weighed a middle after
-    → first ≡ unmetCount (checksIn a middle) (wordIn a middle) → first ≡ unmetCount (checksIn a after) (wordIn a after)
-count-kept {a} {middle} {after} laid w e =
-    let beside : ChangedBeside a (a .marks) (a .marks + a .checks) middle after =
-    beside-numbers (w .changed) (omega (arith, laid .marks-end, laid .word-end)) in
-    e ∙ sym (ap₂ unmetCount (checks-kept laid (rows-front laid) beside) (word-kept laid beside))
+module _ {a : Areas} {before start : List ℕ} {first : ℕ} (laid : Laid a (length before)) (r : Ready a before start first) where
+  -- the checks are those before, and so is the word
+  ready-checks : checksIn a start ≡ checksIn a before
+  ready-checks = checks-kept laid (r .changed) (λ q l g. omega arith)
+
+  ready-word : wordIn a start ≡ wordIn a before
+  ready-word = word-kept laid (r .changed) (λ q l g. omega arith)
 
 -- the run over the buffer, from its marked state on
 pub record MendedTo (a : Areas) (start work : List ℕ) (left repairs : ℕ) : Type 0 where
   pub laid : Laid a (length work)
-  pub changed : ChangedBeside a (a .marks) (a .word + a .gross) start work
+  pub changed : Changed (marksSpan a ∷ wordSpan a ∷ numbersSpan a ∷ []) start work
   pub marked : Marked a work
   pub balanced : Balanced a work
   pub run : RunTo (checksIn a start) (wordIn a start) (wordIn a work) left repairs
 
 -- it starts with marks and balances made
-pub mended-start : {a : Areas} {before start : List ℕ} {left : ℕ} → Laid a (length before) → BitsIn a before → Ready a before start
-    → left ≡ unmetCount (checksIn a start) (wordIn a start) → MendedTo a start start left 0
-mended-start {a} {start = start} laid bits m e =
+pub mended-start : {a : Areas} {before start : List ℕ} {first : ℕ} → Laid a (length before) → BitsIn a before → Ready a before start first
+    → MendedTo a start start first 0
+mended-start {a} {start = start} laid bits r =
     record {
-      laid = laid-as laid (m .changed .long);
-      changed = beside-none a (a .marks) (a .word + a .gross) start;
-      marked = m .marked;
-      balanced = m .balanced;
+      laid = laid-as laid (r .changed .long);
+      changed = changed-none (marksSpan a ∷ wordSpan a ∷ numbersSpan a ∷ []) start;
+      marked = r .marked;
+      balanced = r .balanced;
       run = record {
-        bits = subst⁻¹ AllBits (word-kept laid (m .changed)) bits;
-        left-is = e;
+        bits = subst⁻¹ AllBits (ready-word laid r) bits;
+        left-is = r .first-is ∙ sym (ap₂ unmetCount (ready-checks laid r) (ready-word laid r));
         repairs-more = omega arith;
         same-last = refl;
-        bounded = omega arith;
+        bounded = omega (arith, r .first-is, ap₂ unmetCount (ready-checks laid r) (ready-word laid r));
       };
     }
 
@@ -137,14 +139,17 @@ module _ {a : Areas} {start work : List ℕ} {left repairs : ℕ} (m : MendedTo 
   long : length (wordIn a work) ≡ a .gross
   long = length-part work (a .word) (a .gross) (omega (arith, m .laid))
 
+  -- the checks are those at the start
+  same-checks : checksIn a work ≡ checksIn a start
+  same-checks = let laid = m .laid in checks-kept laid (m .changed) (λ q l g. omega arith)
+
   -- the search for the suspect bit ends no later than the word
   pub suspect-most : {j : ℕ} → j ≡ suspect (checksIn a work) (wordIn a work) → j ≤ a .gross
   suspect-most e = omega (arith, suspect-to (checksIn a work) (wordIn a work), long)
 
   -- there are no more repairs than there can be checks
   pub repairs-few : repairs ≤ 4096
-  repairs-few =
-      omega (arith, m .laid, m .run .bounded, unmet-few (a .checks) (a .gross) (denseBits start (a .stride)) (wordIn a start))
+  repairs-few = omega (arith, m .laid, m .run .bounded, unmet-few (a .checks) (a .gross) (standsIn a start) (wordIn a start))
 
   -- the suspect bit is turned: fewer checks are unmet
   pub mended-next : {j fewer : ℕ} {later : List ℕ} → j < a .gross → j ≡ suspect (checksIn a work) (wordIn a work)
@@ -152,14 +157,16 @@ module _ {a : Areas} {start work : List ℕ} {left repairs : ℕ} (m : MendedTo 
       → MendedTo a start later fewer (repairs + 1) × (fewer < left)
   mended-next {j} {later = later} inside e t f =
       let w : List ℕ = wordIn a work in
-      let changes : ChangedBeside a (a .marks) (a .word + a .gross) start later = beside-then (m .changed) (t .changed) in
-      let found : j ≡ suspect (checksIn a start) w = e ∙ ap (λ (cs : List (List ℕ)). suspect cs w) (checks-kept (m .laid) (rows-front (m .laid)) (m .changed)) in
-      let goes = run-next (m .run) (checks-once (a .checks) (a .gross) (denseBits start (a .stride)))
+      let laid = m .laid in
+      let changes : Changed (marksSpan a ∷ wordSpan a ∷ numbersSpan a ∷ []) start later = changed-then (m .changed) (t .changed) in
+      let found : j ≡ suspect (checksIn a start) w = e ∙ ap (λ (cs : List (List ℕ)). suspect cs w) same-checks in
+      let later-checks : checksIn a later ≡ checksIn a start = checks-kept laid changes (λ q l g. omega arith) in
+      let goes = run-next (m .run) (checks-once (a .checks) (a .gross) (standsIn a start))
       (omega (arith, found, long))
       (t .word-is ∙ ap (turned w) found)
-      (f ∙ ap (λ (cs : List (List ℕ)). unmetCount cs (wordIn a later)) (checks-kept (m .laid) (rows-front (m .laid)) changes)) in (
+      (f ∙ ap (λ (cs : List (List ℕ)). unmetCount cs (wordIn a later)) later-checks) in (
         record {
-          laid = laid-as (m .laid) (t .changed .long);
+          laid = laid-as laid (t .changed .long);
           changed = changes;
           marked = t .marked;
           balanced = t .balanced;
@@ -169,46 +176,41 @@ module _ {a : Areas} {start work : List ℕ} {left repairs : ℕ} (m : MendedTo 
       )
 
   -- the rule ends: no check is unmet, or no bit is suspect
-  pub mended-all : {before : List ℕ} {first : ℕ} → Laid a (length before) → Ready a before start
-      → first ≡ unmetCount (checksIn a start) (wordIn a start) → (left ≡ 0) ⊎ (suspect (checksIn a work) (wordIn a work) ≡ a .gross)
-      → MendedBy a before work repairs first (ltb 0 left)
+  pub mended-all : {before : List ℕ} {first : ℕ} → Laid a (length before) → Ready a before start first
+      → (left ≡ 0) ⊎ (suspect (checksIn a work) (wordIn a work) ≡ a .gross) → MendedBy a before work repairs first (ltb 0 left)
   unfolding stuck
-  mended-all {before} laid k e over =
+  mended-all {before} laid r over =
       let cs : List (List ℕ) = checksIn a start in
       let w : List ℕ = wordIn a work in
-      let checks : cs ≡ checksIn a before = checks-kept laid (omega arith) (k .changed) in
-      let word : wordIn a start ≡ wordIn a before = word-kept laid (k .changed) in
-      let same : checksIn a work ≡ cs = checks-kept laid (rows-front laid) (m .changed) in
+      let checks : cs ≡ checksIn a before = ready-checks laid r in
+      let word : wordIn a start ≡ wordIn a before = ready-word laid r in
       let ended : Ended cs w =
       ⊎-elim (λ none. inl (omega (arith, m .run .left-is)))
-      (λ none. inr (suspect-none cs w (sym (ap (λ (c : List (List ℕ)). suspect c w) same) ∙ none ∙ sym long))) over in
+      (λ none. inr (suspect-none cs w (sym (ap (λ (c : List (List ℕ)). suspect c w) same-checks) ∙ none ∙ sym long))) over in
       let done : (w ≡ lastWord cs (wordIn a start)) × (repairs ≡ length (repairsOf cs (wordIn a start))) = run-done (m .run) ended in
       record {
-        changed = beside-then (beside-wider (k .changed) (omega arith) (omega arith)) (beside-wider (m .changed) (rows-front laid) (omega arith));
+        changed =
+            changed-then (changed-wider (r .changed) (λ q o. (o .0, (o .1 .0, o .1 .1 .1)))) (changed-wider (m .changed) (λ q o. o .1));
         word-is = done .0 ∙ ap₂ lastWord checks word;
         repairs-are = done .1 ∙ ap₂ (λ (c : List (List ℕ)) (v : List ℕ). length (repairsOf c v)) checks word;
-        first-is = e ∙ ap₂ unmetCount checks word;
-        bounded = omega (arith, m .run .bounded);
+        first-is = r .first-is;
+        bounded = omega (arith, m .run .bounded, r .first-is, ap₂ unmetCount checks word);
         stuck-is = ap (ltb 0) (m .run .left-is ∙ ap (unmetCount cs) (done .0)) ∙ ap₂ stuck checks word;
         marked = m .marked;
       }
 
 -- No check is unmet at the start: the rule ends there.
-pub mended-none : {a : Areas} {before start : List ℕ} {first : ℕ} → Laid a (length before) → WordMarked a before start
-    → first ≡ unmetCount (checksIn a start) (wordIn a start) → first ≡ 0 → MendedBy a before start 0 0 false
+pub mended-none : {a : Areas} {before start : List ℕ} {first : ℕ} → Laid a (length before) → Judged a before start first → first ≡ 0
+    → MendedBy a before start 0 0 false
 unfolding stuck
-mended-none {a} {before} {start} laid k e none =
-    let beside : ChangedBeside a (a .checks * a .stride) (a .marks + a .checks) before start =
-    beside-front (k .changed) (omega (arith, laid .marks-end, laid .word-end)) in
+mended-none {a} {before} {start} laid k none =
     let cs : List (List ℕ) = checksIn a before in
-    let checks : checksIn a start ≡ cs = checks-kept laid (omega arith) beside in
-    let word : wordIn a start ≡ wordIn a before = word-kept laid beside in
-    let met : 0 ≡ unmetCount cs (wordIn a before) = sym none ∙ e ∙ ap₂ unmetCount checks word in
+    let met : 0 ≡ unmetCount cs (wordIn a before) = sym none ∙ k .number-is in
     let over : (repairsOf cs (wordIn a before) ≡ []) × (lastWord cs (wordIn a before) ≡ wordIn a before) =
     run-ends cs (wordIn a before) (ended-ends cs (wordIn a before) (inl (sym met))) in
     record {
-      changed = beside-wider beside (omega arith) (omega (arith, laid .marks-end));
-      word-is = word ∙ sym (over .1);
+      changed = changed-wider (k .changed) (λ q o. (o .0, (o .1 .0, tt)));
+      word-is = word-kept laid (k .changed) (λ q l g. omega arith) ∙ sym (over .1);
       repairs-are = sym (ap length (over .0));
       first-is = met;
       bounded = omega arith;

@@ -2,12 +2,14 @@
 -- Assumes nothing.
 use Prim.Native.Nat.{ℕ, _+_, _*_, _≤_, _<_}
 use mathlib.Core.Path.{_≡_, sym, ap, _∙_}
-use mathlib.Core.List.{List}
+use mathlib.Core.List.{List, [], _∷_}
 use native.Mathlib.Omega.{arith}
 use lib.ListN.{length, set}
 use Rattle.symbology.specs.Shuffle.{exchanged}
-use Rattle.lent.specs.Buffer.{numberAt, numbersAt, storedNumber, ChangedIn}
-use Rattle.lent.proofs.Buffer.{numbers-at, length-stored, stored-numbers, changed-stored}
+use Rattle.lent.specs.Changes.{span, Changed}
+use Rattle.lent.specs.Buffer.{numberAt, numbersAt, storedNumber}
+use Rattle.lent.proofs.Buffer.{numbers-at, length-stored, stored-numbers}
+use Rattle.lent.proofs.Changes.{changed-stored}
 use Rattle.shuffle.specs.Numbers.{exchangedNumbers}
 
 -- Of the numbers from a place on, two are exchanged.
@@ -23,10 +25,12 @@ exchanged-numbers xs at n i j h k room =
     ∙ sym (rw (numbers-at xs at n i h, numbers-at xs at n j k))
 
 -- The exchange of two numbers of an area changes the buffer in the area.
-pub exchanged-changed : {at n : ℕ} {before after : List ℕ} (i j : ℕ) → ChangedIn at (at + 2 * n) before after → i < n → j < n
-    → ChangedIn at (at + 2 * n) before (exchangedNumbers after at i j)
+pub exchanged-changed : {at n : ℕ} {before after : List ℕ} (i j : ℕ) → Changed (span at (at + 2 * n) ∷ []) before after → i < n → j < n
+    → Changed (span at (at + 2 * n) ∷ []) before (exchangedNumbers after at i j)
 unfolding exchangedNumbers
 exchanged-changed {at} {n} {before} {after} i j c h k =
     let x : ℕ = numberAt after (at + 2 * i) in
     let y : ℕ = numberAt after (at + 2 * j) in
-    changed-stored (changed-stored c (at + 2 * i) y (omega arith) (omega arith)) (at + 2 * j) x (omega arith) (omega arith)
+    let first =
+    changed-stored c (at + 2 * i) y (λ o. omega (arith, o .0 (omega arith))) (λ o. omega (arith, o .0 (omega arith))) in
+    changed-stored first (at + 2 * j) x (λ o. omega (arith, o .0 (omega arith))) (λ o. omega (arith, o .0 (omega arith)))

@@ -3,13 +3,15 @@
 -- Assumes nothing.
 use Prim.Native.Nat.{ℕ, _+_, _-_, _*_, _≤_, _<_}
 use mathlib.Core.Path.{_≡_, ap, _∙_}
-use mathlib.Core.List.{List}
+use mathlib.Core.List.{List, [], _∷_}
 use native.Mathlib.Omega.{arith}
 use lib.ListN.{length}
 use Rattle.symbology.specs.Generator.{nextState, stateAfter}
 use Rattle.symbology.specs.Shuffle.{drawnPlace}
-use Rattle.lent.specs.Buffer.{numbersAt, ChangedIn}
-use Rattle.lent.proofs.Buffer.{length-numbers, changed-none}
+use Rattle.lent.specs.Changes.{span, Changed}
+use Rattle.lent.specs.Buffer.{numbersAt}
+use Rattle.lent.proofs.Buffer.{length-numbers}
+use Rattle.lent.proofs.Changes.{changed-none}
 use Rattle.shuffle.specs.Numbers.{exchangedNumbers, NumbersShuffled}
 use Rattle.shuffle.proofs.Forwards.{Permuting, permuting-start, permuting-next, permuting-done}
 use Rattle.shuffle.proofs.Exchanged.{exchanged-numbers, exchanged-changed}
@@ -17,14 +19,14 @@ use Rattle.shuffle.proofs.Exchanged.{exchanged-numbers, exchanged-chang
 pub record PermutingNumbers (xs : List ℕ) (at n state left s : ℕ) (ys : List ℕ) : Type 0 where
   pub inside : left ≤ n
   pub numbers : Permuting (numbersAt xs at n) state left s (numbersAt ys at n)
-  pub changed : ChangedIn at (at + 2 * n) xs ys
+  pub changed : Changed (span at (at + 2 * n) ∷ []) xs ys
 
 pub numbers-permuting-start : (xs : List ℕ) (at n state : ℕ) → PermutingNumbers xs at n state n state xs
 numbers-permuting-start xs at n state =
     record {
       inside = omega arith;
       numbers = rw (length-numbers xs at n) at (permuting-start (numbersAt xs at n) state);
-      changed = changed-none at (at + 2 * n) xs;
+      changed = changed-none (span at (at + 2 * n) ∷ []) xs;
     }
 
 module _ {xs : List ℕ} {at n state left s : ℕ} {ys : List ℕ} (p : PermutingNumbers xs at n state left s ys) where

@@ -10,7 +10,7 @@ use Rattle.symbology.specs.Net.{withEndMark}
 use Rattle.pieces.specs.Pieces.{StoredAt}
 use Rattle.pieces.proofs.Pieces.{joined, stored-kept, stored-front}
 use Rattle.lent.specs.Buffer.{Cleared}
-use Rattle.lent.proofs.Buffer.{cleared-rest}
+use Rattle.lent.proofs.Clearing.{cleared-rest}
 
 -- the stream, the mark behind it and the cleared rest
 pub net-stored : (stream : List ℕ) {before stored after : List ℕ} {end : ℕ} → length stream < length before

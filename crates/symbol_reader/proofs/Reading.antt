@@ -1,17 +1,18 @@
 -- The answers of the stages and the message buffer at exit: what a refusal of 7 to 10 gives, and what the stage behind hands on.
 -- Assumes nothing.
 use Prim.Native.Nat.{ℕ, _≤_, _<_}
-use mathlib.Core.Path.{_≡_, refl, sym, ap, _∙_, subst}
+use mathlib.Core.Path.{_≡_, refl, sym, ap, ap₂, _∙_, subst}
 use mathlib.Core.Bool.{Bool, true, false}
 use mathlib.Core.List.{List, [], _∷_}
 use native.Mathlib.Omega.{arith}
-use lib.ListN.{length, take}
+use lib.ListN.{length, take, drop}
 use borrow.Author.Tests.{lt-ltb, le-ltb}
 use Rattle.symbology.specs.declared.Params.{Params}
 use Rattle.symbology.specs.declared.Sizes.{Sizes}
 use Rattle.symbology.specs.Capacity.{sizesFor}
-use Rattle.symbology.specs.Rule.{lastWord}
-use Rattle.symbology.specs.Code.{checksFor, messageBitsFor}
+use Rattle.symbology.specs.Bits.{anyOne}
+use Rattle.symbology.specs.Rule.{lastWord, stuck}
+use Rattle.symbology.specs.Code.{matrixFor, checksFor, messageBitsFor}
 use Rattle.symbology.specs.Placement.{firstBadModule}
 use Rattle.symbology.specs.Symbol.{receivedWord}
 use Rattle.calls.specs.declared.Counts.{Counts}
@@ -19,17 +20,22 @@ use Rattle.calls.specs.declared.StreamAnswer.{StreamAnswer}
 use Rattle.calls.specs.declared.ReadAnswer.{ReadAnswer}
 use Rattle.calls.specs.Answers.{counted, refused, fromStream}
 use Rattle.calls.specs.Tests.{firstOf, spareOne, badModule, badStuffing, frontRows, earlyRows, isLegal}
-use Rattle.calls.specs.Read.{messageInAccepted, messageInNet, messageIn, frontAfter, streamAnswer, answerFromAccepted, countsOf, answerFromReceived, readAnswer}
+use Rattle.calls.specs.Read.{messageInAccepted, messageInNet, messageIn, frontAfter, streamAnswer}
+use Rattle.calls.specs.Read.{answerFromAccepted, countsOf, answerFromReceived, readAnswer}
 use Rattle.call_laws.proofs.Tests.{first-append, first-hit, first-miss, first-none, first-passed}
 use Rattle.call_laws.proofs.Stages.{accepted-stream, accepted-spare, from-stuck, from-mended}
 use Rattle.call_laws.proofs.Answers.{refused-front}
-use Rattle.ldpc.specs.Work.{wordFor}
-use Rattle.ldpc.specs.Stages.{MendedFor}
+use Rattle.lent.specs.declared.Areas.{Areas}
+use Rattle.lent.specs.Work.{RoomFor, wordIn, netIn}
+use Rattle.lent.proofs.Work.{net-areas}
+use Rattle.coding.specs.Stages.{WordMended, MessageTaken}
+use Rattle.ldpc.proofs.Stages.{checks-for, message-for}
 use Rattle.stream_reader.specs.Reading.{NetRead}
 use Rattle.symbol_reader.specs.Stages.{Answered}
 
 -- a refusal that is the defined answer, and a buffer as it came
-refusal : (message before : List ℕ) {defined k a : ReadAnswer} → (k .number ≡ 0 → ⊥) → a ≡ k → defined ≡ k → Answered defined message before a before
+refusal : (message before : List ℕ) {defined k a : ReadAnswer} → (k .number ≡ 0 → ⊥) → a ≡ k → defined ≡ k
+    → Answered defined message before a before
 refusal message before {a = a} some e same =
     let other : a .number ≡ 0 → ⊥ = λ z. some (sym (ap (λ (x : ReadAnswer). x .number) e) ∙ z) in
     record { answer-is = e ∙ sym same; message-is = sym (refused-front (a .number) message before other) }
@@ -63,35 +69,56 @@ module _ (s : Sizes) (w : List ℕ) (c : Counts) (room : ℕ) (before : List ℕ
             ∙ ap (λ (b : ReadAnswer). frontAfter (b .number) (messageInAccepted s w) before) (sym e);
       }
 
+-- ---- the message taken from the accepted word
+
+module _ {s : Sizes} {a : Areas} {room : ℕ} {before after : List ℕ} {spare : Bool} (r : RoomFor s a room)
+    (t : MessageTaken a (matrixFor s) before after spare) where
+  -- whether a spare message column is 1
+  pub spare-told : spare ≡ spareOne s (wordIn a before) .test
+  spare-told =
+      t .spare-is
+      ∙ ap₂ (λ (n : ℕ) (bs : List ℕ). anyOne (drop n bs)) (net-areas r) (message-for r (wordIn a before))
+
+  -- the net bits
+  pub net-told : netIn a after ≡ take (s .net) (messageBitsFor s (wordIn a before))
+  net-told = t .message-is ∙ ap₂ take (net-areas r) (message-for r (wordIn a before))
+
 -- ---- from the received word
 
 module _ (s : Sizes) (w : List ℕ) (room : ℕ) (before : List ℕ) where
   abbrev FromReceived : ReadAnswer → List ℕ → Type 0
   FromReceived a after = Answered (answerFromReceived s w room) (messageInAccepted s (lastWord (checksFor s) w)) before a after
 
-module _ {s : Sizes} {work mended : List ℕ} {repairs unmet : ℕ} {stuck : Bool} (m : MendedFor s work mended repairs unmet stuck)
-    (room : ℕ) (before : List ℕ) where
+module _ {s : Sizes} {a : Areas} {size : ℕ} {work mended : List ℕ} {repairs unmet : ℕ} {isStuck : Bool} (r : RoomFor s a size)
+    (m : WordMended a (matrixFor s) work mended repairs unmet isStuck) (room : ℕ) (before : List ℕ) where
+  abbrev w : List ℕ
+  w = wordIn a work
+
   abbrev counts : Counts
   counts = record { repairs = repairs; unmet = unmet }
 
-  counts-are : counts ≡ countsOf s (wordFor s work)
-  counts-are = rw (m .repairs-are, m .first-is) refl
+  counts-are : counts ≡ countsOf s w
+  counts-are = rw (m .repairs-are, m .first-is, checks-for r) refl
+
+  stuck-told : isStuck ≡ stuck (checksFor s) w
+  stuck-told = m .stuck-is ∙ ap (λ (cs : List (List ℕ)). stuck cs w) (checks-for r)
+
+  last-is : wordIn a mended ≡ lastWord (checksFor s) w
+  last-is = m .word-is ∙ ap (λ (cs : List (List ℕ)). lastWord cs w) (checks-for r)
 
   -- 9: stuck
-  pub stuck-word : {a : ReadAnswer} → stuck ≡ true → a ≡ counted counts 9 0 → FromReceived s (wordFor s work) room before a before
+  pub stuck-word : {answer : ReadAnswer} → isStuck ≡ true → answer ≡ counted counts 9 0 → FromReceived s w room before answer before
   stuck-word t e =
-      refusal (messageInAccepted s (lastWord (checksFor s) (wordFor s work))) before (λ z. omega arith) e
-      (from-stuck s (wordFor s work) room (sym (m .stuck-is) ∙ t) ∙ ap (λ (c : Counts). counted c 9 0) (sym counts-are))
+      refusal (messageInAccepted s (lastWord (checksFor s) w)) before (λ z. omega arith) e
+      (from-stuck s w room (sym stuck-told ∙ t) ∙ ap (λ (c : Counts). counted c 9 0) (sym counts-are))
 
   -- not stuck
-  pub mended-word : {a : ReadAnswer} {after : List ℕ} → stuck ≡ false → FromAccepted s (wordFor s mended) counts room before a after
-      → FromReceived s (wordFor s work) room before a after
-  mended-word {a} t read =
+  pub mended-word : {answer : ReadAnswer} {after : List ℕ} → isStuck ≡ false
+      → FromAccepted s (wordIn a mended) counts room before answer after → FromReceived s w room before answer after
+  mended-word {answer} t read =
       record {
-        answer-is =
-            read .answer-is
-            ∙ rw (m .word-is, counts-are) (sym (from-mended s (wordFor s work) room (sym (m .stuck-is) ∙ t)));
-        message-is = read .message-is ∙ ap (λ (x : List ℕ). frontAfter (a .number) (messageInAccepted s x) before) (m .word-is);
+        answer-is = read .answer-is ∙ rw (last-is, counts-are) (sym (from-mended s w room (sym stuck-told ∙ t)));
+        message-is = read .message-is ∙ ap (λ (x : List ℕ). frontAfter (answer .number) (messageInAccepted s x) before) last-is;
       }
 
 -- ---- from the matrix
@@ -145,6 +172,7 @@ module _ (p : Params) (l matrix : List ℕ) (work room : ℕ) (before : List ℕ
         let given : FromReceived (sizesFor p l) (receivedWord p l matrix) room before a after =
         subst (λ (z : Sizes). FromReceived z (receivedWord p l matrix) room before a after) sizes moved in
         record {
-          answer-is = given .answer-is ∙ sym (passed-7 ∙ first-miss refused (badStuffing p l matrix) [] onward t ∙ first-none refused onward);
+          answer-is =
+              given .answer-is ∙ sym (passed-7 ∙ first-miss refused (badStuffing p l matrix) [] onward t ∙ first-none refused onward);
           message-is = given .message-is;
         }

@@ -24,23 +24,22 @@ use Rattle.layout.proofs.Legal.{sized-symbol}
 use Rattle.lent.specs.declared.Areas.{Areas}
 use Rattle.lent.specs.Buffer.{part}
 use Rattle.lent.proofs.Buffer.{part-lent, length-lent, givenBack, length-back, front-back, behind-back}
-use Rattle.ldpc.specs.Work.{areasOf, CodeSizes, wordFor, netFor}
-use Rattle.ldpc.proofs.Work.{legal-sizes, bits-inside}
+use Rattle.lent.specs.Work.{areasOf, RoomFor, wordIn, netIn}
+use Rattle.lent.proofs.Work.{legal-room, room-as, gross-areas, net-areas, bits-inside}
 
 -- ---- the net bits
 
 -- as they are lent
-pub net-lent : (s : Sizes) {a : Areas} (work : List ℕ) → a ≡ areasOf s → part work (a .message) (a .message + s .net - a .message) ≡ netFor s work
-net-lent s {a} work e = part-lent work (a .message) (s .net) ∙ ap (λ (z : Areas). part work (z .message) (s .net)) e
+pub net-lent : {s : Sizes} {a : Areas} {room : ℕ} (work : List ℕ) → RoomFor s a room
+    → part work (a .message) (a .message + s .net - a .message) ≡ netIn a work
+net-lent {s} {a} work r = part-lent work (a .message) (s .net) ∙ ap (part work (a .message)) (sym (net-areas r))
 
 -- ---- the C bits
 
 -- the sizes of a legal symbol, and the areas of a work buffer for them
 pub record Sized (p : Params) (l : List ℕ) (modules : ℕ) (work : List ℕ) (s : Sizes) (a : Areas) : Type 0 where
-  pub code : CodeSizes s
-  pub room : s .work ≤ length work
+  pub room : RoomFor s a (length work)
   pub sizes-are : s ≡ sizesFor p l
-  pub areas-are : a ≡ areasOf s
   pub legal-is : Legal p l modules (length work)
 
 pub sized : (p : Params) (l : List ℕ) (modules : ℕ) (work : List ℕ) {s : Sizes} {a : Areas}
@@ -49,13 +48,12 @@ pub sized : (p : Params) (l : List ℕ) (modules : ℕ) (work : List ℕ) {s : S
     → a ≡ areasOf s
     → Sized p l modules work s a
 sized p l modules work e same areas =
-    let k = legal-sizes p l (e .symbol) (e .enough) same in
-    record { code = k .0; room = k .1; sizes-are = same; areas-are = areas; legal-is = e }
+    record { room = legal-room p l (e .symbol) (e .enough) same areas; sizes-are = same; legal-is = e }
 
 module _ {p : Params} {l : List ℕ} {modules : ℕ} {work : List ℕ} {s : Sizes} {a : Areas} (k : Sized p l modules work s a) where
   -- they fit
   pub bits-fit : a .word + s .capacity ≤ length work
-  bits-fit = bits-inside (k .code) (k .room) (k .areas-are)
+  bits-fit = bits-inside (k .room)
 
   -- what receiving them asks for
   pub bits-lent : let out = part work (a .word) (a .word + s .capacity - a .word) in
@@ -64,7 +62,7 @@ module _ {p : Params} {l : List ℕ} {modules : ℕ} {work : List ℕ} {s : Size
       let c : ℕ = s .capacity in
       let many : length (part work (a .word) (a .word + c - a .word)) ≡ c = length-lent work (a .word) c bits-fit in (
         sized-symbol p l (k .legal-is .symbol) (many ∙ ap (λ (z : Sizes). z .capacity) (k .sizes-are)) (k .legal-is .whole),
-        omega (arith, k .code .few),
+        omega (arith, k .room .sizes .few),
       )
 
   -- the buffer once they are received
@@ -84,17 +82,17 @@ module _ {p : Params} {l : List ℕ} {modules : ℕ} {work : List ℕ} {s : Size
     same-room = length-back (a .word) (s .capacity) work bits bits-fit many-bits
 
     -- its word
-    pub word-received : wordFor s after ≡ receivedWord p l matrix
+    pub word-received : wordIn a after ≡ receivedWord p l matrix
     unfolding receivedWord
     word-received =
-        ap (λ (z : Areas). part after (z .word) (s .gross)) (sym (k .areas-are))
-        ∙ front-back (a .word) (s .capacity) work bits bits-fit many-bits (s .gross) (k .code .inside)
+        ap (part after (a .word)) (gross-areas (k .room))
+        ∙ front-back (a .word) (s .capacity) work bits bits-fit many-bits (s .gross) (k .room .sizes .inside)
         ∙ ap (take (s .gross)) got
         ∙ ap (λ (z : Sizes). take (z .gross) (receivedBits p l matrix)) (k .sizes-are)
 
     -- what going on from the word asks for
-    pub word-asks : CodeSizes s × (s .work ≤ length after) × AllBits (wordFor s after)
-    word-asks = (k .code, omega (arith, same-room, k .room), subst⁻¹ AllBits word-received (received-bits p l matrix))
+    pub word-asks : RoomFor s a (length after) × AllBits (wordIn a after)
+    word-asks = (room-as (k .room) same-room, subst⁻¹ AllBits word-received (received-bits p l matrix))
 
     -- test 8, of the bits behind the word
     pub stuffing-told : {r : Bool}
@@ -104,10 +102,11 @@ module _ {p : Params} {l : List ℕ} {modules : ℕ} {work : List ℕ} {s : Size
     stuffing-told {r} e =
         let rest : List ℕ = drop (s .gross) bits in
         let same : part after (a .word + s .gross) (a .word + s .capacity - (a .word + s .gross)) ≡ rest =
-        behind-back (a .word) (s .capacity) work bits bits-fit many-bits (s .gross) (k .code .inside) in
+        behind-back (a .word) (s .capacity) work bits bits-fit many-bits (s .gross) (k .room .sizes .inside) in
         let long : length rest ≡ s .capacity - s .gross = length-drop (s .gross) bits ∙ ap (λ (n : ℕ). n - s .gross) many-bits in
         e
         ∙ ap (λ (x : List ℕ). not (sameBits x (stuffing (length x)))) same
         ∙ ap (λ (n : ℕ). not (sameBits rest (stuffing n))) long
         ∙ ap (λ (x : List ℕ). not (sameBits (drop (s .gross) x) (stuffing (s .capacity - s .gross)))) got
-        ∙ ap (λ (z : Sizes). not (sameBits (drop (z .gross) (receivedBits p l matrix)) (stuffing (z .capacity - z .gross)))) (k .sizes-are)
+        ∙ ap (λ (z : Sizes). not (sameBits (drop (z .gross) (receivedBits p l matrix)) (stuffing (z .capacity - z .gross))))
+        (k .sizes-are)

@@ -6,6 +6,7 @@
 // value; `room` is the length that a message may have, whatever the buffer that it is stored to.
 use calls::Counts;
 use calls::ReadAnswer;
+use lent::Areas;
 use symbology::Params;
 use symbology::Sizes;
 ghost use Prim.Native.Nat.{_≤_};
@@ -15,42 +16,45 @@ ghost use lib.ListN.{length};
 ghost use Rattle.symbology.specs.Bits.{AllBits};
 ghost use Rattle.symbology.specs.Rule.{lastWord};
 ghost use Rattle.symbology.specs.Net.{stuffing};
+ghost use Rattle.symbology.specs.Capacity.{sizesFor};
 ghost use Rattle.symbology.specs.Symbol.{receivedBits, sameBits};
-ghost use Rattle.symbology.specs.Code.{checksFor};
+ghost use Rattle.symbology.specs.Code.{matrixFor, checksFor};
 ghost use Rattle.calls.specs.Tests.{isLegal};
 ghost use Rattle.calls.specs.Read.{answerFromAccepted, answerFromReceived, readAnswer, messageInAccepted, messageIn};
 ghost use Rattle.calls.specs.Contracts.{Reads};
 ghost use Rattle.layout.specs.Walk.{SizedSymbol};
-ghost use Rattle.ldpc.specs.Work.{CodeSizes, wordFor, HoldsA};
+ghost use Rattle.lent.specs.Work.{RoomFor, wordIn};
+ghost use Rattle.checks.specs.Checks.{HoldsChecks};
 ghost use Rattle.symbol_reader.specs.Stages.{Answered};
 
-// From the accepted word: 10, a spare message column is 1, and what follows. The rows of A are in the
+// From the accepted word: 10, a spare message column is 1, and what follows. The checks of A are in the
 // buffer.
 fn from_accepted(
     s: Sizes,
+    a: Areas,
     work: &mut [u8],
     c: Counts,
     room: usize,
     message: &mut [u8],
 ) -> ReadAnswer
-    requires { ⌜ CodeSizes s × (s .work ≤ length (now work)) × HoldsA s (now work) ⌝ }
-    ensures { λ r. ⌜ Answered (answerFromAccepted s (wordFor s (now (work .entry))) c room) (messageInAccepted s (wordFor s (now (work .entry)))) (now (message .entry)) r (now (message .exit)) ⌝ }
+    requires { ⌜ RoomFor s a (length (now work)) × HoldsChecks a (matrixFor s) (now work) ⌝ }
+    ensures { λ r. ⌜ Answered (answerFromAccepted s (wordIn a (now (work .entry))) c room) (messageInAccepted s (wordIn a (now (work .entry)))) (now (message .entry)) r (now (message .exit)) ⌝ }
 {
-    if ldpc::read_message(work, s) {
+    if coding::take_message(work, a) {
         return calls::counted(c, 10);
     }
-    let at = ldpc::areas(s).message;
+    let at = a.message;
     let end = at + s.net;
     let read = stream_reader::read_net(&work[at..end], room, message);
     calls::from_stream(c, read)
 }
 
 // From the received word: 9, stuck; else the read goes on from the word the rule ends with.
-fn from_received(s: Sizes, work: &mut [u8], room: usize, message: &mut [u8]) -> ReadAnswer
-    requires { ⌜ CodeSizes s × (s .work ≤ length (now work)) × AllBits (wordFor s (now work)) ⌝ }
-    ensures { λ r. ⌜ Answered (answerFromReceived s (wordFor s (now (work .entry))) room) (messageInAccepted s (lastWord (checksFor s) (wordFor s (now (work .entry))))) (now (message .entry)) r (now (message .exit)) ⌝ }
+fn from_received(s: Sizes, a: Areas, work: &mut [u8], room: usize, message: &mut [u8]) -> ReadAnswer
+    requires { ⌜ RoomFor s a (length (now work)) × AllBits (wordIn a (now work)) ⌝ }
+    ensures { λ r. ⌜ Answered (answerFromReceived s (wordIn a (now (work .entry))) room) (messageInAccepted s (lastWord (checksFor s) (wordIn a (now (work .entry))))) (now (message .entry)) r (now (message .exit)) ⌝ }
 {
-    let mended = ldpc::mend(work, s);
+    let mended = ldpc::mend(work, s, a);
     let c = Counts {
         repairs: mended.repairs,
         unmet: mended.unmet,
@@ -58,7 +62,7 @@ fn from_received(s: Sizes, work: &mut [u8], room: usize, message: &mut [u8]) -> 
     if mended.stuck {
         return calls::counted(c, 9);
     }
-    from_accepted(s, work, c, room, message)
+    from_accepted(s, a, work, c, room, message)
 }
 
 // Stores the C bits of a matrix, the mask and then the interleaving undone.
@@ -92,38 +96,40 @@ fn read_uncleared(
     work: &mut [u8],
     room: usize,
     message: &mut [u8],
+    s: Sizes,
 ) -> ReadAnswer
-    requires { ⌜ isLegal p (now list) (length (now matrix)) (length (now work)) ≡ true ⌝ }
+    requires { ⌜ (isLegal p (now list) (length (now matrix)) (length (now work)) ≡ true) × (s ≡ sizesFor p (now list)) ⌝ }
     ensures { λ r. ⌜ Answered (readAnswer p (now (list .entry)) (now (matrix .entry)) (length (now (work .entry))) room) (messageIn p (now (list .entry)) (now (matrix .entry))) (now (message .entry)) r (now (message .exit)) ⌝ }
 {
     let bad = layout::first_bad_module(p.colours, matrix);
     if bad < matrix.len() {
         return calls::refused(7, bad);
     }
-    let s = capacity::sizes_of(p, list.len() / 3);
-    let at = ldpc::areas(s).word;
+    let a = lent::areas_for(s);
+    let at = a.word;
     let seam = at + s.gross;
     let end = at + s.capacity;
     receive(p, list, matrix, &mut work[at..end]);
     if is_wrong_stuffing(&work[seam..end]) {
         return calls::refused(8, 0);
     }
-    from_received(s, work, room, message)
+    from_received(s, a, work, room, message)
 }
 
-// A read of legal input. The work buffer is cleared behind it.
+// A read of legal input, with the sizes of its symbol. The work buffer is cleared behind it.
 pub fn read_legal(
     p: Params,
     list: &[u16],
     matrix: &[u8],
     work: &mut [u8],
     message: &mut [u8],
+    s: Sizes,
 ) -> ReadAnswer
-    requires { ⌜ isLegal p (now list) (length (now matrix)) (length (now work)) ≡ true ⌝ }
+    requires { ⌜ (isLegal p (now list) (length (now matrix)) (length (now work)) ≡ true) × (s ≡ sizesFor p (now list)) ⌝ }
     ensures { λ r. ⌜ Reads p (now (list .entry)) (now (matrix .entry)) (now (work .entry)) (now (message .entry)) r (now (work .exit)) (now (message .exit)) ⌝ }
 {
     let room = message.len();
-    let answer = read_uncleared(p, list, matrix, work, room, message);
+    let answer = read_uncleared(p, list, matrix, work, room, message, s);
     lent::clear(work, 0, work.len());
     answer
 }

@@ -3,12 +3,11 @@
 use Prim.Native.Nat.{ℕ, _+_, _%_, _≤_, _<_}
 use mathlib.Core.Path.{_≡_, refl, ap, _∙_}
 use mathlib.Core.List.{List}
-use native.Mathlib.Decide.{ℕ-discrete}
 use native.Mathlib.Omega.{arith}
 use lib.ListN.{length, set, length-set}
-use lib.Seq.{getD-set-same, getD-set-other}
 use Rattle.symbology.specs.Net.{stuffing}
 use Rattle.laws.proofs.Net.{StuffedTo, stuffing-is}
+use Rattle.laws.proofs.Stores.{store-each}
 
 -- the first i places have the stuffing bits
 pub record Stuffing (i : ℕ) (before after : List ℕ) : Type 0 where
@@ -23,10 +22,8 @@ module _ {i : ℕ} {before after : List ℕ} (s : Stuffing i before after) where
   stuffing-next h =
       record {
         long = length-set after i (i % 2) ∙ s .long;
-        stuffed = λ j g. elim (ℕ-discrete j i) [
-          | yes e ↦ rw e (getD-set-same after i (i % 2) 0 h)
-          | no e ↦ getD-set-other after i j (i % 2) 0 e ∙ s .stuffed j (omega arith)
-        ];
+        stuffed =
+            store-each (λ j v. j < i + 1 → v ≡ j % 2) after i (i % 2) h (λ j e g. s .stuffed j (omega arith)) (λ g. refl);
       }
 
   pub stuffing-all : length after ≤ i → after ≡ stuffing (length before)

@@ -1,7 +1,7 @@
 -- The stages of a write: what each asks of the work buffer, and what they leave for the next.
 -- Assumes nothing.
 use Prim.Native.Nat.{ℕ, suc, _+_, _-_, _≤_, _<_}
-use mathlib.Core.Path.{_≡_, refl, sym, ap, ap₂, _∙_, subst⁻¹}
+use mathlib.Core.Path.{_≡_, sym, ap, ap₂, _∙_, subst⁻¹}
 use mathlib.Core.Bool.{Bool, true, false}
 use mathlib.Core.List.{List, _++_}
 use native.Mathlib.Omega.{arith}
@@ -16,7 +16,7 @@ use Rattle.symbology.specs.Shuffle.{shuffled, interleavingSeed}
 use Rattle.symbology.specs.Net.{withEndMark, exceeds, stuffing}
 use Rattle.symbology.specs.Placement.{filled}
 use Rattle.symbology.specs.Capacity.{sizesFor}
-use Rattle.symbology.specs.Code.{codewordFor}
+use Rattle.symbology.specs.Code.{matrixFor, codewordFor}
 use Rattle.symbology.specs.Symbol.{placedBits, writtenMatrix}
 use Rattle.laws.proofs.Net.{length-net, net-bits, length-stuffing}
 use Rattle.laws.proofs.Shuffle.{length-shuffled}
@@ -26,114 +26,97 @@ use Rattle.calls.specs.Tests.{isLegal}
 use Rattle.call_laws.proofs.RoundTrip.{writes-and-reads}
 use Rattle.lent.specs.declared.Areas.{Areas}
 use Rattle.lent.specs.Buffer.{part}
-use Rattle.lent.proofs.Buffer.{length-part, part-lent, length-lent, part-same, length-put, part-put, changed-put, givenBack, length-back, part-back}
-use Rattle.ldpc.specs.Work.{areasOf, CodeSizes, wordFor, netFor}
-use Rattle.ldpc.specs.Stages.{Encoded}
-use Rattle.ldpc.proofs.Work.{net-inside, bits-inside}
+use Rattle.lent.specs.Work.{Laid, CodeSizes, RoomFor, wordIn, netIn}
+use Rattle.lent.proofs.Buffer.{length-part, part-lent, length-lent, length-put, part-put, changed-put, givenBack, length-back, part-back}
+use Rattle.lent.proofs.Work.{net-inside, part-kept, gross-areas, net-areas, bits-inside}
+use Rattle.coding.specs.Stages.{WordEncoded}
+use Rattle.ldpc.proofs.Stages.{codeword-for}
 use Rattle.symbol_writer.specs.Writing.{NetStored, BitsPlaced, MatrixWritten}
 
 -- ---- the stages in the work buffer
 
-module _ {s : Sizes} (before : List ℕ) (k : CodeSizes s) (room : s .work ≤ length before) where
-  -- the net bits came back in their area
-  pub net-stored : {a : Areas} (stream : List ℕ) {new : List ℕ}
-      → a ≡ areasOf s
-      → length stream < s .net
-      → new ≡ withEndMark (length (part before (a .message) (a .message + s .net - a .message))) stream
-      → NetStored s stream before (givenBack (a .message) (s .net) before new)
-  net-stored {a} stream {new} e fits is =
-      let inside : a .message + s .net ≤ length before = net-inside k room e in
-      let net : new ≡ withEndMark (s .net) stream =
-      is ∙ ap (λ (m : ℕ). withEndMark m stream) (length-lent before (a .message) (s .net) inside) in
-      let long : length new ≡ s .net = ap length net ∙ length-net (s .net) stream fits in
-      let after : List ℕ = givenBack (a .message) (s .net) before new in
+-- the net bits came back in their area
+pub net-stored : {a : Areas} {before : List ℕ} (stream : List ℕ) {new : List ℕ}
+    → Laid a (length before)
+    → length stream < a .net
+    → new ≡ withEndMark (length (part before (a .message) (a .message + a .net - a .message))) stream
+    → NetStored a stream before (givenBack (a .message) (a .net) before new)
+net-stored {a} {before} stream {new} laid fits is =
+    let inside : a .message + a .net ≤ length before = net-inside laid in
+    let net : new ≡ withEndMark (a .net) stream =
+    is ∙ ap (λ (m : ℕ). withEndMark m stream) (length-lent before (a .message) (a .net) inside) in
+    let long : length new ≡ a .net = ap length net ∙ length-net (a .net) stream fits in
+    record {
+      long = length-back (a .message) (a .net) before new inside long;
+      net-is = part-back (a .message) (a .net) before new inside long ∙ net;
+    }
+
+module _ {s : Sizes} {a : Areas} (before : List ℕ) (r : RoomFor s a (length before)) (encoded : List ℕ)
+    (coded : WordEncoded a (matrixFor s) before encoded) (stuff : List ℕ) where
+  abbrev seam : ℕ
+  seam = a .word + a .gross
+
+  abbrev end : ℕ
+  end = a .word + s .capacity
+
+  -- the buffer with the stuffing bits behind the word
+  abbrev later : List ℕ
+  later = putMid seam (end - seam) encoded stuff
+
+  abbrev Stuffed : Type 0
+  Stuffed = stuff ≡ stuffing (length (part encoded seam (end - seam)))
+
+  -- the stuffing bits lie behind the word, in front of the numbers
+  pub seam-inside : (a .gross ≤ s .capacity) × (seam + (end - seam) ≤ length encoded)
+  seam-inside =
+      let whole : a .gross ≤ s .capacity = omega (arith, gross-areas r, r .sizes .inside) in
+      (whole, omega (arith, bits-inside r, coded .changed .long))
+
+  -- they are so many
+  stuff-long : Stuffed → length stuff ≡ end - seam
+  stuff-long is = ap length is ∙ length-stuffing _ ∙ length-part encoded seam (end - seam) (seam-inside .1)
+
+  -- the buffer is as long as before
+  pub stuffed-long : Stuffed → length later ≡ length before
+  stuffed-long is = length-put seam (end - seam) encoded stuff (seam-inside .1) (stuff-long is) ∙ coded .changed .long
+
+  -- codeword and stuffing stand one behind the other
+  stuffed-word : Stuffed → part later (a .word) (s .capacity) ≡ codewordFor s (netIn a before) ++ stuffing (s .capacity - s .gross)
+  stuffed-word is =
+      let m : ℕ = end - seam in
+      let changed = changed-put seam m encoded stuff (seam-inside .1) (stuff-long is) in
+      let whole : s .capacity ≡ a .gross + m = omega (arith, seam-inside .0) in
+      let many : m ≡ s .capacity - s .gross = omega (arith, gross-areas r) in
+      let front : part later (a .word) (a .gross) ≡ wordIn a encoded =
+      part-kept changed (a .word) (a .gross) (omega (arith, seam-inside .1)) (λ i h g. omega arith) in
+      let behind : part later seam m ≡ stuffing (s .capacity - s .gross) =
+      part-put seam m encoded stuff (seam-inside .1) (stuff-long is)
+      ∙ is
+      ∙ ap stuffing (length-part encoded seam m (seam-inside .1) ∙ many) in
+      ap (part later (a .word)) whole
+      ∙ take-add (a .gross) m (drop (a .word) later)
+      ∙ ap₂ (λ (xs ys : List ℕ). xs ++ take m ys) (front ∙ coded .word-is ∙ codeword-for r (netIn a before))
+      (drop-drop (a .gross) (a .word) later)
+      ∙ ap (λ (ys : List ℕ). codewordFor s (netIn a before) ++ ys) behind
+
+  -- and the C bits in their area, interleaved
+  pub bits-placed : {new : List ℕ}
+      → Stuffed
+      → new ≡ shuffled 0 interleavingSeed (part later (a .word) (end - a .word))
+      → BitsPlaced s a before (givenBack (a .word) (s .capacity) later new)
+  unfolding placedBits
+  bits-placed {new} stuffs is =
+      let at : ℕ = a .word in
+      let c : ℕ = s .capacity in
+      let inside : at + c ≤ length later = omega (arith, stuffed-long stuffs, bits-inside r) in
+      let placed : new ≡ shuffled 0 interleavingSeed (part later at c) =
+      is ∙ ap (shuffled 0 interleavingSeed) (part-lent later at c) in
+      let many : length (part later at c) ≡ c = length-part later at c inside in
+      let long : length new ≡ c = ap length placed ∙ length-shuffled 0 interleavingSeed (part later at c) ∙ many in
       record {
-        long = length-back (a .message) (s .net) before new inside long;
-        net-is =
-            ap (λ (b : Areas). part after (b .message) (s .net)) (sym e)
-            ∙ part-back (a .message) (s .net) before new inside long
-            ∙ net;
+        long = length-back at c later new inside long ∙ stuffed-long stuffs;
+        bits-are = part-back at c later new inside long ∙ placed ∙ ap (shuffled 0 interleavingSeed) (stuffed-word stuffs);
       }
-
-  -- codeword and stuffing, one behind the other
-  stuffed-word : (after : List ℕ) → Encoded s before after
-      → let at = areasOf s .word in
-      let m = s .capacity - s .gross in
-      let later = putMid (at + s .gross) m after (stuffing m) in
-      (length later ≡ length before) × (part later at (s .capacity) ≡ codewordFor s (netFor s before) ++ stuffing m)
-  stuffed-word after e =
-      let at : ℕ = areasOf s .word in
-      let g : ℕ = s .gross in
-      let m : ℕ = s .capacity - g in
-      let later : List ℕ = putMid (at + g) m after (stuffing m) in
-      let inside : at + g + m ≤ length after = omega (arith, bits-inside k room refl, k .inside, e .changed .long) in
-      let long : length later ≡ length after = length-put (at + g) m after (stuffing m) inside (length-stuffing m) in
-      let whole : s .capacity ≡ g + m = omega (arith, k .inside) in
-      let front : part later at g ≡ wordFor s after = part-same after later at g (omega arith) (omega (arith, long))
-      (λ i p q. changed-put (at + g) m after (stuffing m) inside (length-stuffing m) .front i q) in
-      let behind : part later (at + g) m ≡ stuffing m = part-put (at + g) m after (stuffing m) inside (length-stuffing m) in (
-        long ∙ e .changed .long,
-        ap (part later at) whole
-            ∙ take-add g m (drop at later)
-            ∙ ap₂ (λ (xs ys : List ℕ). xs ++ take m ys) (front ∙ e .word-is) (drop-drop g at later)
-            ∙ ap (λ (ys : List ℕ). codewordFor s (netFor s before) ++ ys) behind,
-      )
-
-  module _ {a : Areas} (e : a ≡ areasOf s) (encoded : List ℕ) (coded : Encoded s before encoded) (stuff : List ℕ) where
-    abbrev seam : ℕ
-    seam = a .word + s .gross
-
-    abbrev end : ℕ
-    end = a .word + s .capacity
-
-    -- the buffer with the stuffing bits behind the word
-    abbrev later : List ℕ
-    later = putMid seam (end - seam) encoded stuff
-
-    abbrev Stuffed : Type 0
-    Stuffed = stuff ≡ stuffing (length (part encoded seam (end - seam)))
-
-    stuffed-is : Stuffed → later ≡ putMid (areasOf s .word + s .gross) (s .capacity - s .gross) encoded (stuffing (s .capacity - s .gross))
-    stuffed-is is =
-        let g : ℕ = s .gross in
-        let m : ℕ = s .capacity - g in
-        let here : a .word ≡ areasOf s .word = ap (λ (b : Areas). b .word) e in
-        let rest : end - seam ≡ m = omega (arith, k .inside) in
-        let inside : seam + m ≤ length encoded = omega (arith, bits-inside {room = length before} k room e, k .inside, coded .changed .long) in
-        let bits : stuff ≡ stuffing m = is ∙ ap stuffing (ap (λ (j : ℕ). length (part encoded seam j)) rest ∙ length-part encoded seam m inside) in
-        ap₂ (λ (j : ℕ) (ys : List ℕ). putMid seam j encoded ys) rest bits
-        ∙ ap (λ (i : ℕ). putMid (i + g) m encoded (stuffing m)) here
-
-    -- it is as long as before
-    pub stuffed-long : Stuffed → length later ≡ length before
-    stuffed-long is = ap length (stuffed-is is) ∙ stuffed-word encoded coded .0
-
-    -- and the C bits in theirs, interleaved
-    pub bits-placed : {new : List ℕ}
-        → Stuffed
-        → new ≡ shuffled 0 interleavingSeed (part later (a .word) (end - a .word))
-        → BitsPlaced s before (givenBack (a .word) (s .capacity) later new)
-    unfolding placedBits
-    bits-placed {new} stuffs is =
-        let at : ℕ = areasOf s .word in
-        let c : ℕ = s .capacity in
-        let here : a .word ≡ at = ap (λ (b : Areas). b .word) e in
-        let inside : a .word + c ≤ length later = omega (arith, stuffed-long stuffs, bits-inside {room = length before} k room e) in
-        let lent : part later (a .word) (end - a .word) ≡ part later at c = part-lent later (a .word) c ∙ ap (λ (i : ℕ). part later i c) here in
-        let placed : new ≡ shuffled 0 interleavingSeed (part later at c) = is ∙ ap (shuffled 0 interleavingSeed) lent in
-        let many : length (part later at c) ≡ c = length-part later at c (omega (arith, inside, here)) in
-        let long : length new ≡ c = ap length placed ∙ length-shuffled 0 interleavingSeed (part later at c) ∙ many in
-        let bits : part later at c ≡ codewordFor s (netFor s before) ++ stuffing (c - s .gross) =
-        ap (λ (xs : List ℕ). part xs at c) (stuffed-is stuffs) ∙ stuffed-word encoded coded .1 in
-        let after : List ℕ = givenBack (a .word) c later new in
-        record {
-          long = length-back (a .word) c later new inside long ∙ stuffed-long stuffs;
-          bits-are =
-              ap (λ (i : ℕ). part after i c) (sym here)
-              ∙ part-back (a .word) c later new inside long
-              ∙ placed
-              ∙ ap (shuffled 0 interleavingSeed) bits;
-        }
 
 -- ---- the matrix
 
@@ -142,22 +125,24 @@ pub net-few : {s : Sizes} → CodeSizes s → s .net ≤ 4096
 net-few k = omega (arith, k .parts, k .inside, k .few)
 
 -- the net bits of a stream of bits are bits
-pub stored-bits : {s : Sizes} {stream before after : List ℕ} → AllBits stream → NetStored s stream before after → AllBits (netFor s after)
-stored-bits {s} {stream} bits n = subst⁻¹ AllBits (n .net-is) (net-bits (s .net) stream bits)
+pub stored-bits : {a : Areas} {stream before after : List ℕ} → AllBits stream → NetStored a stream before after → AllBits (netIn a after)
+stored-bits {a} {stream} bits n = subst⁻¹ AllBits (n .net-is) (net-bits (a .net) stream bits)
 
 -- a matrix filled with the C bits of a stream
-pub matrix-stored : (p : Params) (l stream : List ℕ) {s : Sizes} {a : Areas} {first second third matrix : List ℕ}
+pub matrix-stored : (p : Params) (l stream : List ℕ) {s : Sizes} {a : Areas} {room : ℕ} {first second third matrix : List ℕ}
     → s ≡ sizesFor p l
-    → a ≡ areasOf s
-    → NetStored s stream first second
-    → BitsPlaced s second third
+    → RoomFor s a room
+    → NetStored a stream first second
+    → BitsPlaced s a second third
     → matrix ≡ filled p l (part third (a .word) (a .word + s .capacity - a .word))
     → matrix ≡ writtenMatrix p l stream
 unfolding writtenMatrix
-matrix-stored p l stream {s} {a} {third = third} e h n b is =
+matrix-stored p l stream {s} {a} {third = third} e r n b is =
     is
-    ∙ ap (filled p l) (part-lent third (a .word) (s .capacity) ∙ ap (λ (x : Areas). part third (x .word) (s .capacity)) h)
-    ∙ ap (filled p l) (b .bits-are ∙ ap (placedBits s) (n .net-is))
+    ∙ ap (filled p l)
+    (part-lent third (a .word) (s .capacity)
+    ∙ b .bits-are
+    ∙ ap (placedBits s) (n .net-is ∙ ap (λ (m : ℕ). withEndMark m stream) (net-areas r)))
     ∙ ap (λ (z : Sizes). filled p l (placedBits z (withEndMark (z .net) stream))) e
 
 -- ---- test 6

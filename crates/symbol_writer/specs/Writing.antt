@@ -10,18 +10,19 @@ use Rattle.symbology.specs.Net.{withEndMark}
 use Rattle.symbology.specs.Symbol.{placedBits}
 use Rattle.calls.specs.declared.Answer.{Answer}
 use Rattle.calls.specs.Write.{writeAnswer, matrixAfterWrite}
+use Rattle.lent.specs.declared.Areas.{Areas}
 use Rattle.lent.specs.Buffer.{part}
-use Rattle.ldpc.specs.Work.{areasOf, netFor}
+use Rattle.lent.specs.Work.{netIn}
 
 -- the net bits are those of the stream
-pub record NetStored (s : Sizes) (stream before after : List ℕ) : Type 0 where
+pub record NetStored (a : Areas) (stream before after : List ℕ) : Type 0 where
   pub long : length after ≡ length before
-  pub net-is : netFor s after ≡ withEndMark (s .net) stream
+  pub net-is : netIn a after ≡ withEndMark (a .net) stream
 
 -- the C bits in the word's area are those of the net bits
-pub record BitsPlaced (s : Sizes) (before after : List ℕ) : Type 0 where
+pub record BitsPlaced (s : Sizes) (a : Areas) (before after : List ℕ) : Type 0 where
   pub long : length after ≡ length before
-  pub bits-are : part after (areasOf s .word) (s .capacity) ≡ placedBits s (netFor s before)
+  pub bits-are : part after (a .word) (s .capacity) ≡ placedBits s (netIn a before)
 
 -- a write of legal input, before the work buffer is cleared
 pub record MatrixWritten (p : Params) (l stream matrix : List ℕ) (work : ℕ) (a : Answer) (matrix′ : List ℕ) : Type 0 where

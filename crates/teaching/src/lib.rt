@@ -16,7 +16,7 @@ ghost use Rattle.symbology.specs.Placement.{unmasked, masked};
 ghost use Rattle.symbology.specs.Capacity.{sizesFor};
 ghost use Rattle.symbology.specs.Code.{codewordFor};
 ghost use Rattle.calls.specs.Sizes.{sizesAnswer};
-ghost use Rattle.ldpc.specs.Work.{wordFor, netFor};
+ghost use Rattle.lent.specs.Work.{areasOf, wordIn, netIn};
 
 // The codeword of a sum is the sum of the codewords: `ldpc::encode` stores in three work buffers the codeword
 // of their net bits, and where the net bits of one are the sum of those of the others, so is its word. None
@@ -25,14 +25,15 @@ ghost use Rattle.ldpc.specs.Work.{wordFor, netFor};
 pub fn encode_sum(p: Params, list: &[u16], x: &mut [u8], y: &mut [u8], sum: &mut [u8])
     requires { ⌜ sizesAnswer p (now list) .number ≡ 0 ⌝ }
     requires { ⌜ (let s = sizesFor p (now list) in (s .work ≤ length (now x)) × (s .work ≤ length (now y)) × (s .work ≤ length (now sum))) ⌝ }
-    requires { ⌜ (let s = sizesFor p (now list) in AllBits (netFor s (now x)) × AllBits (netFor s (now y)) × AllBits (netFor s (now sum))) ⌝ }
-    ensures { λ _. ⌜ (let s = sizesFor p (now (list .entry)) in (wordFor s (now (x .exit)) ≡ codewordFor s (netFor s (now (x .entry)))) × (wordFor s (now (y .exit)) ≡ codewordFor s (netFor s (now (y .entry)))) × (wordFor s (now (sum .exit)) ≡ codewordFor s (netFor s (now (sum .entry))))) ⌝ }
-    ensures { λ _. ⌜ (let s = sizesFor p (now (list .entry)) in netFor s (now (sum .entry)) ≡ bitwiseSum (netFor s (now (x .entry))) (netFor s (now (y .entry))) → wordFor s (now (sum .exit)) ≡ bitwiseSum (wordFor s (now (x .exit))) (wordFor s (now (y .exit)))) ⌝ }
+    requires { ⌜ (let a = areasOf (sizesFor p (now list)) in AllBits (netIn a (now x)) × AllBits (netIn a (now y)) × AllBits (netIn a (now sum))) ⌝ }
+    ensures { λ _. ⌜ (let s = sizesFor p (now (list .entry)) in let a = areasOf s in (wordIn a (now (x .exit)) ≡ codewordFor s (netIn a (now (x .entry)))) × (wordIn a (now (y .exit)) ≡ codewordFor s (netIn a (now (y .entry)))) × (wordIn a (now (sum .exit)) ≡ codewordFor s (netIn a (now (sum .entry))))) ⌝ }
+    ensures { λ _. ⌜ (let a = areasOf (sizesFor p (now (list .entry))) in netIn a (now (sum .entry)) ≡ bitwiseSum (netIn a (now (x .entry))) (netIn a (now (y .entry))) → wordIn a (now (sum .exit)) ≡ bitwiseSum (wordIn a (now (x .exit))) (wordIn a (now (y .exit)))) ⌝ }
 {
     let s = capacity::sizes_of(p, list.len() / 3);
-    ldpc::encode(x, s);
-    ldpc::encode(y, s);
-    ldpc::encode(sum, s);
+    let a = lent::areas_for(s);
+    ldpc::encode(x, s, a);
+    ldpc::encode(y, s, a);
+    ldpc::encode(sum, s, a);
 }
 
 // The interleaving of a sum is the sum of the interleavings: `shuffle::shuffle` permutes three words from one

@@ -1,5 +1,5 @@
--- `check_matrix::turn_block` meets its contract: the invariant is in how many columns the bit of the block is turned.
--- Assumes nothing.
+-- `check_matrix::turn_block` meets its contract. The invariant: in the first j columns the bit to which the column order leads is turned,
+-- and no other. What falls: the columns left. Assumes nothing.
 use Prim.Native.Nat.{_-_}
 use mathlib.Core.Path.{refl}
 use native.Mathlib.Omega.{arith}
@@ -15,8 +15,8 @@ abbrev μ-loop : tie.MeasureT-loop
 
 loop-holds : tie.Need-loop-holds Inv-loop μ-loop
 loop-holds c =
-    let p = c .before .args in
-    turning-start (p .a) (p .wr) (p .first) (p .work .now)
+    let args = c .before .args in
+    turning-start (args .a) (args .wr) (args .first) (args .work .now)
 
 mul-number-at : tie.Need-mul-number-at Inv-loop μ-loop
 mul-number-at c = omega arith
@@ -32,14 +32,18 @@ div-turn c = omega arith
 
 add-turn : tie.Need-add-turn Inv-loop μ-loop
 add-turn c =
-    let pre = c .before .before .before .before .before .before .before .pre in
-    let row = turning-row (pre .0) (pre .1) (c .before .before .before .before .before .loop .inv) (omega arith) (c .before .number-at .ensures .0) in
+    let read = c .before in
+    let at-loop = read .before .before .before .before in
+    let pre = at-loop .before .before .pre in
+    let row = turning-row (pre .0) (pre .1) (at-loop .loop .inv) (omega arith) (read .number-at .ensures .0) in
     omega (arith, row)
 
 turn-requires : tie.Need-turn-requires Inv-loop μ-loop
 turn-requires c κs =
-    let pre = c .before .before .before .before .before .before .before .pre in
-    turning-place (pre .0) (pre .1) (c .before .before .before .before .before .loop .inv) refl (omega arith) (c .before .number-at .ensures .0)
+    let read = c .before in
+    let at-loop = read .before .before .before .before in
+    let pre = at-loop .before .before .pre in
+    turning-place (pre .0) (pre .1) (at-loop .loop .inv) refl (omega arith) (read .number-at .ensures .0)
 
 add-j : tie.Need-add-j Inv-loop μ-loop
 add-j c = omega arith
@@ -49,18 +53,20 @@ loop-less c = omega arith
 
 loop-again : tie.Need-loop-again Inv-loop μ-loop
 loop-again c =
-    let loop = c .before .before .before .before .before .before .before .before .loop in
-    let number-at = c .before .before .before .before .number-at in
-    let pre = c .before .before .before .before .before .before .before .before .before .before .pre in
-    turning-next (pre .0) (pre .1) (loop .inv) (omega arith) (number-at .ensures .0) (c .before .before .turn .ensures)
+    let turned = c .before .before in
+    let read = turned .before .before in
+    let at-loop = read .before .before .before .before in
+    let pre = at-loop .before .before .pre in
+    turning-next (pre .0) (pre .1) (at-loop .loop .inv) (omega arith) (read .number-at .ensures .0) (turned .turn .ensures)
 
 same-length : tie.Need-same-length Inv-loop μ-loop
 same-length c = c .before .before .loop .inv .changed .long
 
 returns : tie.Need-returns Inv-loop μ-loop
 returns c =
-    let pre = c .before .before .before .before .pre in
-    turning-done (pre .0) (pre .1) (c .before .before .loop .inv) (omega arith)
+    let at-loop = c .before .before in
+    let pre = at-loop .before .before .pre in
+    turning-done (pre .0) (pre .1) (at-loop .loop .inv) (omega arith)
 
 pub turn-block-spec : {M : Type 1} → statement M
 turn-block-spec =

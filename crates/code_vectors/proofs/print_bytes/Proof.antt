@@ -1,4 +1,5 @@
--- `code_vectors::print_bytes` is safe: i stays within the bytes. Assumes nothing.
+-- `code_vectors::print_bytes` is safe. The invariant: i is at most the number of the bytes. What falls: the bytes not printed yet.
+-- Assumes nothing.
 use Prim.Native.Nat.{_-_, _≤_}
 use native.Mathlib.Omega.{arith}
 use lib.ListN.{length}

@@ -1,4 +1,4 @@
--- `code_vectors::print_numbers` meets what it calls. Assumes nothing.
+-- `code_vectors::print_numbers` is safe. The invariant: i is at most n. What falls: the numbers not printed yet. Assumes nothing.
 use Prim.Native.Nat.{_-_, _≤_}
 use borrow.Author.Needs.{needs}
 use Rattle.code_vectors.proofs.print_numbers.Statement.{statement}

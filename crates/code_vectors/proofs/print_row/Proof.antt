@@ -1,8 +1,10 @@
--- `code_vectors::print_row` is safe: each bit that it looks at lies in the rows. Assumes nothing.
+-- `code_vectors::print_row` is safe: each bit that it looks at lies in the rows. The invariant: j is at most the number of the columns.
+-- What falls: the columns not looked at yet. Assumes nothing.
 use Prim.Native.Nat.{_-_, _≤_}
 use native.Mathlib.Omega.{arith}
 use borrow.Author.Needs.{needs}
-use Rattle.dense.proofs.Dense.{bit-inside, marks-inside}
+use Rattle.lent.proofs.Work.{marks-inside}
+use Rattle.dense.proofs.Dense.{bit-inside}
 use Rattle.code_vectors.proofs.print_row.Statement.{statement}
 use Rattle.code_vectors.proofs.print_row.Tie as tie
 

@@ -1,4 +1,5 @@
--- `dense::add_row` meets its contract: the bytes up to b are added. Assumes nothing.
+-- `dense::add_row` meets its contract. The invariant: the first b bytes of row `from` are added to row `to`, and all else is as it was.
+-- What falls: the bytes left. Assumes nothing.
 use Prim.Native.Nat.{_-_, _≤_}
 use mathlib.Core.Path.{_≡_}
 use native.Mathlib.Omega.{arith}
@@ -19,7 +20,9 @@ mul-source : tie.Need-mul-source Inv-loop μ-loop
 mul-source c = omega arith
 
 loop-holds : tie.Need-loop-holds Inv-loop μ-loop
-loop-holds c = (omega arith, added-start (c .args .stride) (c .args .to) (c .args .from) (c .args .xs .now))
+loop-holds c =
+    let args = c .args in
+    (omega arith, added-start (args .stride) (args .to) (args .from) (args .xs .now))
 
 add-xs : tie.Need-add-xs Inv-loop μ-loop
 add-xs c = omega arith
@@ -47,14 +50,18 @@ loop-less c = omega arith
 
 loop-again : tie.Need-loop-again Inv-loop μ-loop
 loop-again c =
-    let pre = c .before .before .before .before .pre in
-    (omega arith, added-next (c .before .before .before .loop .inv .1) (pre .0) (omega arith) (omega arith))
+    let at-loop = c .before .before .before in
+    let start = at-loop .before in
+    (omega arith, added-next (at-loop .loop .inv .1) (start .pre .0) (omega arith) (omega arith))
 
 same-length : tie.Need-same-length Inv-loop μ-loop
 same-length c = c .before .loop .inv .1 .changed .long
 
 returns : tie.Need-returns Inv-loop μ-loop
-returns c = let e : c .before .loop .b ≡ c .before .before .args .n = omega arith in added-all (rw e at (c .before .loop .inv .1))
+returns c =
+    let at-loop = c .before in
+    let end : at-loop .loop .b ≡ at-loop .before .args .n = omega arith in
+    added-all (rw end at (at-loop .loop .inv .1))
 
 pub add-row-spec : {M : Type 1} → statement M
 add-row-spec =

@@ -1,4 +1,5 @@
--- `dense::odd_ones` meets its contract: the parity of the bits below k is kept. Assumes nothing.
+-- `dense::odd_ones` meets its contract. The invariant: `odd` is the parity of the first k bits of the byte. What falls: the bits left.
+-- Assumes nothing.
 use Prim.Native.Nat.{_-_, _≤_}
 use mathlib.Core.Path.{_≡_, refl}
 use native.Mathlib.Omega.{arith}
@@ -35,10 +36,16 @@ loop-less : tie.Need-loop-less Inv-loop μ-loop
 loop-less c = omega arith
 
 loop-again : tie.Need-loop-again Inv-loop μ-loop
-loop-again c = (omega arith, omega arith, odd-bit (c .before .before .args .x) (c .before .loop .k) (c .before .loop .odd) (c .before .loop .inv .2))
+loop-again c =
+    let at-loop = c .before in
+    let now = at-loop .loop in
+    (omega arith, omega arith, odd-bit (at-loop .before .args .x) (now .k) (now .odd) (now .inv .2))
 
 returns : tie.Need-returns Inv-loop μ-loop
-returns c = let e : c .before .loop .k ≡ 8 = omega arith in rw e at (c .before .loop .inv .2)
+returns c =
+    let at-loop = c .before in
+    let end : at-loop .loop .k ≡ 8 = omega arith in
+    rw end at (at-loop .loop .inv .2)
 
 pub odd-ones-spec : {M : Type 1} → statement M
 odd-ones-spec =

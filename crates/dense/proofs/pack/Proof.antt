@@ -1,4 +1,5 @@
--- `dense::pack` meets its contract: the bits below j are stored. Assumes nothing.
+-- `dense::pack` meets its contract. The invariant: row k holds the first j bits of the word and is 0 in the columns behind them, and all
+-- else is as it was. What falls: the bits left. Assumes nothing.
 use Prim.Native.Nat.{ℕ, _-_, _+_, _%_, _≤_}
 use mathlib.Core.Path.{_≡_, _∙_}
 use mathlib.Core.Logic.{⊎-elim}
@@ -28,22 +29,23 @@ loop-holds : tie.Need-loop-holds Inv-loop μ-loop
 loop-holds c = (omega arith, packed-start (c .before .before .clear .ensures))
 
 add-if1 : tie.Need-add-if1 Inv-loop μ-loop
-add-if1 c = omega (arith, c .before .before .before .before .before .before .before .pre .2)
+add-if1 c =
+    let start = c .before .before .before .before .before .before .before in
+    omega (arith, start .pre .2)
 
 slice-read-if1 : tie.Need-slice-read-if1 Inv-loop μ-loop
 slice-read-if1 c =
-    let clear = c .before .before .before .before .before .clear in
-    let loop = c .before .before .loop in
-    omega (arith, loop .inv .1 .changed .long, clear .ensures .changed .long)
+    let at-loop = c .before .before in
+    let cleared = at-loop .before .before .before in
+    omega (arith, at-loop .loop .inv .1 .changed .long, cleared .clear .ensures .changed .long)
 
 turn-requires : tie.Need-turn-requires Inv-loop μ-loop
 turn-requires c κs =
-    let args = c .before .before .before .before .before .before .before .before .before .before .args in
-    let pre = c .before .before .before .before .before .before .before .before .before .before .pre in
-    let clear = c .before .before .before .before .before .before .before .clear in
-    let loop = c .before .before .before .before .loop in
-    let inside = in-row (args .n) (args .stride) (loop .j) (pre .0) (omega arith) in
-    (omega (arith, inside, loop .inv .1 .changed .long, clear .ensures .changed .long), inside)
+    let at-loop = c .before .before .before .before in
+    let cleared = at-loop .before .before .before in
+    let start = cleared .before .before .before in
+    let inside = in-row (start .args .n) (start .args .stride) (at-loop .loop .j) (start .pre .0) (omega arith) in
+    (omega (arith, inside, at-loop .loop .inv .1 .changed .long, cleared .clear .ensures .changed .long), inside)
 
 add-j : tie.Need-add-j Inv-loop μ-loop
 add-j c = omega arith
@@ -53,29 +55,32 @@ loop-less c = omega arith
 
 loop-again : tie.Need-loop-again Inv-loop μ-loop
 loop-again c =
-    let args = c .before .before .before .before .before .before .before .before .before .args in
-    let pre = c .before .before .before .before .before .before .before .before .before .pre in
-    let clear = c .before .before .before .before .before .before .clear in
-    let loop = c .before .before .before .loop in
-    let p = loop .inv .1 in
-    let v : ℕ = getD (clear .last .0) (args .word + loop .j) 0 % 2 in
-    let same = p .changed .behind (args .word + loop .j) (omega (arith, pre .1)) in (
+    let at-loop = c .before .before .before in
+    let cleared = at-loop .before .before .before in
+    let start = cleared .before .before .before in
+    let packed = at-loop .loop .inv .1 in
+    let place : ℕ = start .args .word + at-loop .loop .j in
+    let bit : ℕ = getD (cleared .clear .last .0) place 0 % 2 in
+    let same = packed .changed .kept place (omega (arith, start .pre .1)) in (
       omega arith,
-      ⊎-elim (λ way. rw (way .5) (packed-one p (eq-eqb v 1 (omega (arith, same, way .0 .taken))) (way .2 .ensures)))
-          (λ way. rw (way .1) (packed-zero p (ne-eqb v 1 (λ f. way .0 .left (omega (arith, same))))))
+      ⊎-elim (λ way. rw (way .5) (packed-one packed (eq-eqb bit 1 (omega (arith, same, way .0 .taken))) (way .2 .ensures)))
+          (λ way. rw (way .1) (packed-zero packed (ne-eqb bit 1 (λ f. way .0 .left (omega (arith, same))))))
           (c .if1 .came),
     )
 
 same-length : tie.Need-same-length Inv-loop μ-loop
-same-length c = c .before .loop .inv .1 .changed .long ∙ c .before .before .before .before .clear .ensures .changed .long
+same-length c =
+    let at-loop = c .before in
+    let cleared = at-loop .before .before .before in
+    at-loop .loop .inv .1 .changed .long ∙ cleared .clear .ensures .changed .long
 
 returns : tie.Need-returns Inv-loop μ-loop
 returns c =
-    let args = c .before .before .before .before .before .before .before .args in
-    let pre = c .before .before .before .before .before .before .before .pre in
-    let clear = c .before .before .before .before .clear in
-    let e : c .before .loop .j ≡ args .n = omega arith in
-    packed-all (pre .1) (clear .ensures) (rw e at (c .before .loop .inv .1))
+    let at-loop = c .before in
+    let cleared = at-loop .before .before .before in
+    let start = cleared .before .before .before in
+    let end : at-loop .loop .j ≡ start .args .n = omega arith in
+    packed-all (start .pre .1) (cleared .clear .ensures) (rw end at (at-loop .loop .inv .1))
 
 pub pack-spec : {M : Type 1} → statement M
 pack-spec =

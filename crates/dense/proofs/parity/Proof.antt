@@ -1,4 +1,5 @@
--- `dense::parity` meets its contract: the parity of the columns in the bytes up to b is kept. Assumes nothing.
+-- `dense::parity` meets its contract. The invariant: the parity of the bits of `both` is that of the columns in the first b bytes in which
+-- both rows have a 1. What falls: the bytes left. Assumes nothing.
 use Prim.Native.Nat.{_-_, _*_, _≤_}
 use mathlib.Core.Path.{_≡_, refl, ap, _∙_}
 use mathlib.Core.Bool.{xor}
@@ -11,7 +12,8 @@ use Rattle.dense.proofs.parity.Statement.{statement}
 use Rattle.dense.proofs.parity.Tie as tie
 
 abbrev Inv-loop : tie.InvT-loop
-Inv-loop xs stride i k row word both₀ b₀ both b = (b ≤ stride) × (parity 8 (byteBit both) ≡ dot (b * 8) (denseBits xs stride i) (denseBits xs stride k))
+Inv-loop xs stride i k row word both₀ b₀ both b =
+    (b ≤ stride) × (parity 8 (byteBit both) ≡ dot (b * 8) (denseBits xs stride i) (denseBits xs stride k))
 
 abbrev μ-loop : tie.MeasureT-loop
 μ-loop xs stride i k row word both₀ b₀ both b = stride - b
@@ -46,20 +48,19 @@ loop-less c = omega arith
 
 loop-again : tie.Need-loop-again Inv-loop μ-loop
 loop-again c =
-    let args = c .before .before .before .before .before .args in
-    let loop = c .before .before .before .loop in (
-      omega arith,
-      parity-byte (args .stride) (args .i) (args .k) (loop .b) (args .xs .now) (loop .both) (omega arith) (loop .inv .1),
-    )
+    let at-loop = c .before .before .before in
+    let args = at-loop .before .before .args in
+    let now = at-loop .loop in
+    (omega arith, parity-byte (args .stride) (args .i) (args .k) (now .b) (args .xs .now) (now .both) (omega arith) (now .inv .1))
 
 odd-ones-requires : tie.Need-odd-ones-requires Inv-loop μ-loop
 odd-ones-requires c κs = tt
 
 returns : tie.Need-returns Inv-loop μ-loop
 returns c =
-    let args = c .before .before .before .before .args in
-    let loop = c .before .before .loop in
-    let e : loop .b ≡ args .stride = omega arith in c .odd-ones .ensures ∙ ap tally (rw e at (loop .inv .1))
+    let at-loop = c .before .before in
+    let end : at-loop .loop .b ≡ at-loop .before .before .args .stride = omega arith in
+    c .odd-ones .ensures ∙ ap tally (rw end at (at-loop .loop .inv .1))
 
 pub parity-spec : {M : Type 1} → statement M
 parity-spec =

@@ -26,7 +26,10 @@ same-length : tie.Need-same-length
 same-length c = search needs
 
 returns : tie.Need-returns
-returns c = turn-stored (c .before .args .stride) (c .before .args .i) (c .before .args .j) (c .before .args .xs .now) (c .before .pre .0) (c .before .pre .1)
+returns c =
+    let start = c .before in
+    let args = start .args in
+    turn-stored (args .stride) (args .i) (args .j) (args .xs .now) (start .pre .0) (start .pre .1)
 
 pub turn-spec : {M : Type 1} → statement M
 turn-spec =

@@ -19,10 +19,12 @@ same-length-2 c = search needs
 
 returns : tie.Need-returns
 returns c =
-    let written = c .before .before .before .before .before .before .before in
-    let a = written .before .before .before .before .before .before .before .before .args in
-    not-written (a .p) (a .list .now) (a .message .now) (a .matrix .now) (a .work .now) (a .back .now) (written .write .ensures) (c .before .if1 .taken)
-    (c .refused .ensures)
+    let done = c .before in
+    let written = done .before .before .before .before .before .before in
+    let message = written .before .before .before .before .before .before in
+    let a = message .before .before .args in
+    not-written (a .p) (a .list .now) (a .message .now) (a .matrix .now) (a .work .now) (a .back .now) (written .write .ensures)
+    (done .if1 .taken) (c .refused .ensures)
 
 read-requires : tie.Need-read-requires
 read-requires c κs = search needs

@@ -1,10 +1,11 @@
 -- `legality::size_tests` meets its contract: each test after those before it. Assumes nothing.
-use mathlib.Core.Path.{_≡_, sym, _∙_}
+use mathlib.Core.Path.{_≡_, sym, ap, _∙_}
 use mathlib.Core.Bool.{true}
 use Rattle.symbology.specs.declared.ListVerdict.the-variants.{Sound}
 use Rattle.symbology.specs.Parameters.{inRange}
 use Rattle.symbology.specs.Reserved.{listVerdict}
 use Rattle.capacity.proofs.Groups.{refused, passed}
+use Rattle.legality.specs.declared.Verdict.the-variants.{Refused}
 use Rattle.legality.proofs.Refusals.{out-of-range, faulty, too-small, too-large, none-holds}
 use borrow.Author.Needs.{needs}
 use Rattle.legality.proofs.size_tests.Statement.{statement}
@@ -30,7 +31,8 @@ returns : tie.Need-returns
 returns c =
     let tested = c .before .before in
     let a = tested .before .before .args in
-    c .answered .ensures ∙ sym (out-of-range (a .p) (a .list .now) (refused (tested .in-range .ensures) (c .before .if1 .taken)))
+    ap Refused (c .answered .ensures)
+    ∙ sym (out-of-range (a .p) (a .list .now) (refused (tested .in-range .ensures) (c .before .if1 .taken)))
 
 judge-list-requires : tie.Need-judge-list-requires
 judge-list-requires c κs = search needs
@@ -46,14 +48,15 @@ returns-2 c =
     let judging = c .before .before .before .before in
     let a = judging .before .before .before .before .args in
     let fault = c .before .before .verdict .given in
-    c .answered2 .ensures
+    ap Refused (c .answered2 .ensures)
     ∙ sym (faulty (a .p) (a .list .now) (ranged (judging .before)) (fault .0 .0) (sym (judging .judge-list .ensures) ∙ fault .1))
 
 enum-told : tie.Need-enum-told
 enum-told c = search needs
 
 sizes-of-requires : tie.Need-sizes-of-requires
-sizes-of-requires c κs = ranged (c .before .before .before)
+sizes-of-requires c κs =
+    ranged (c .before .before .before)
 
 answered-requires-3 : tie.Need-answered-requires-3
 answered-requires-3 c κs = search needs
@@ -64,7 +67,7 @@ returns-3 c =
     let sound = sizing .before in
     let a = sound .before .before .before .before .before .before .args in
     let s = sizing .sizes-of in
-    c .answered3 .ensures
+    ap Refused (c .answered3 .ensures)
     ∙ sym (too-small (a .p) (a .list .now) (ranged (sound .before .before .before)) (judged sound) (s .result) (s .ensures)
     (c .before .if2 .taken))
 
@@ -77,23 +80,18 @@ returns-4 c =
     let sound = sizing .before in
     let a = sound .before .before .before .before .before .before .args in
     let s = sizing .sizes-of in
-    c .answered4 .ensures
+    ap Refused (c .answered4 .ensures)
     ∙ sym (too-large (a .p) (a .list .now) (ranged (sound .before .before .before)) (judged sound) (s .result) (s .ensures)
     (c .before .if3 .taken))
 
-answered-requires-5 : tie.Need-answered-requires-5
-answered-requires-5 c κs = search needs
-
 returns-5 : tie.Need-returns-5
 returns-5 c =
-    let small = c .before in
-    let sizing = small .before .before .before .before in
+    let sizing = c .before .before .before .before in
     let sound = sizing .before in
     let a = sound .before .before .before .before .before .before .args in
     let s = sizing .sizes-of in
-    c .answered5 .ensures
-    ∙ sym (none-holds (a .p) (a .list .now) (ranged (sound .before .before .before)) (judged sound) (s .result) (s .ensures)
-    (small .before .before .if2 .left) (small .if3 .left))
+    sym (none-holds (a .p) (a .list .now) (ranged (sound .before .before .before)) (judged sound) (s .result) (s .ensures)
+    (c .before .before .if2 .left) (c .if3 .left))
 
 pub size-tests-spec : {M : Type 1} → statement M
 size-tests-spec =
@@ -112,5 +110,4 @@ size-tests-spec =
     returns-3
     answered-requires-4
     returns-4
-    answered-requires-5
     returns-5)

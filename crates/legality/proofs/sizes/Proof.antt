@@ -1,7 +1,6 @@
 -- `legality::sizes` meets its contract. Assumes nothing.
-use mathlib.Core.Path.{sym, ap, _∙_}
-use Rattle.calls.specs.Answers.{theSizes}
-use Rattle.legality.proofs.Refusals.{range-passed, sizes-refused, sizes-given}
+use mathlib.Core.Path.{sym, _∙_}
+use Rattle.legality.proofs.Refusals.{sizes-refused, sizes-given}
 use borrow.Author.Needs.{needs}
 use Rattle.legality.proofs.sizes.Statement.{statement}
 use Rattle.legality.proofs.sizes.Tie as tie
@@ -9,32 +8,40 @@ use Rattle.legality.proofs.sizes.Tie as tie
 size-tests-requires : tie.Need-size-tests-requires
 size-tests-requires c κs = search needs
 
+enum-known-first : tie.Need-enum-known-first
+enum-known-first c = search needs
+
+the-sizes-requires : tie.Need-the-sizes-requires
+the-sizes-requires c κs = search needs
+
+enum-known-first-2 : tie.Need-enum-known-first-2
+enum-known-first-2 c = search needs
+
 no-sizes-requires : tie.Need-no-sizes-requires
 no-sizes-requires c κs = search needs
 
 returns : tie.Need-returns
 returns c =
-    let a = c .before .before .before .before .before .args in
-    let t = c .before .before .before .size-tests in
-    c .no-sizes .ensures ∙ sym (sizes-refused (a .p) (a .list .now) (t .result) (t .ensures) (c .before .if1 .taken))
-
-sizes-of-requires : tie.Need-sizes-of-requires
-sizes-of-requires c κs =
-    let a = c .before .before .before .before .args in
-    let t = c .before .before .size-tests in
-    range-passed (a .p) (a .list .now) (t .result) (t .ensures) (c .if1 .left)
-
-the-sizes-requires : tie.Need-the-sizes-requires
-the-sizes-requires c κs = search needs
+    let named = c .before .before in
+    let tested = named .before .before in
+    let a = tested .before .before .args in
+    c .the-sizes .ensures ∙ sym (sizes-given (a .p) (a .list .now) (tested .size-tests .ensures) (named .first .given .1))
 
 returns-2 : tie.Need-returns-2
 returns-2 c =
-    let free = c .before .before in
-    let a = free .before .before .before .before .args in
-    let t = free .before .before .size-tests in
-    c .the-sizes .ensures
-    ∙ ap theSizes (c .before .sizes-of .ensures)
-    ∙ sym (sizes-given (a .p) (a .list .now) (t .result) (t .ensures) (free .if1 .left))
+    let named = c .before .before in
+    let tested = named .before .before in
+    let a = tested .before .before .args in
+    c .no-sizes .ensures ∙ sym (sizes-refused (a .p) (a .list .now) (tested .size-tests .ensures) (named .first2 .given .1))
 
 pub sizes-spec : {M : Type 1} → statement M
-sizes-spec = tie.close (tie.spec size-tests-requires no-sizes-requires returns sizes-of-requires the-sizes-requires returns-2)
+sizes-spec =
+    tie.close
+    (tie.spec
+    size-tests-requires
+    enum-known-first
+    the-sizes-requires
+    enum-known-first-2
+    no-sizes-requires
+    returns
+    returns-2)

@@ -1,9 +1,10 @@
--- `lent::clear` meets its contract. Assumes nothing.
+-- `lent::clear` meets its contract. The invariant: i lies between `from` and `to`, the places from `from` up to i are 0, and the others
+-- are as they were. What falls: the places left. Assumes nothing.
 use Prim.Native.Nat.{_-_, _≤_}
 use mathlib.Core.Path.{_≡_}
 use native.Mathlib.Omega.{arith}
 use Rattle.lent.specs.Buffer.{Cleared}
-use Rattle.lent.proofs.Buffer.{cleared-start, cleared-next}
+use Rattle.lent.proofs.Clearing.{cleared-start, cleared-next}
 use Rattle.lent.proofs.clear.Statement.{statement}
 use Rattle.lent.proofs.clear.Tie as tie
 
@@ -32,7 +33,10 @@ same-length : tie.Need-same-length Inv-loop μ-loop
 same-length c = c .before .loop .inv .2 .changed .long
 
 returns : tie.Need-returns Inv-loop μ-loop
-returns c = let e : c .before .loop .i ≡ c .before .before .args .to = omega arith in rw e at (c .before .loop .inv .2)
+returns c =
+    let at-loop = c .before in
+    let end : at-loop .loop .i ≡ at-loop .before .args .to = omega arith in
+    rw end at (at-loop .loop .inv .2)
 
 pub clear-spec : {M : Type 1} → statement M
 clear-spec =

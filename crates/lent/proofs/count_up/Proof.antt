@@ -1,4 +1,5 @@
--- `lent::count_up` meets its contract: the invariant is how many of the numbers are stored. Assumes nothing.
+-- `lent::count_up` meets its contract. The invariant: the first j of the n numbers are stored, and nothing outside them is changed. What
+-- falls: the numbers left. Assumes nothing.
 use Prim.Native.Nat.{_-_}
 use native.Mathlib.Omega.{arith}
 use borrow.Author.Needs.{needs}
@@ -14,8 +15,8 @@ abbrev μ-loop : tie.MeasureT-loop
 
 loop-holds : tie.Need-loop-holds Inv-loop μ-loop
 loop-holds c =
-    let p = c .before .args in
-    counting-start (p .at) (p .n) (p .xs .now)
+    let args = c .before .args in
+    counting-start (args .at) (args .n) (args .xs .now)
 
 mul-put-number : tie.Need-mul-put-number Inv-loop μ-loop
 mul-put-number c = search needs
@@ -36,10 +37,10 @@ loop-less c = search needs
 
 loop-again : tie.Need-loop-again Inv-loop μ-loop
 loop-again c =
-    let pre = c .before .before .before .before .before .before .before .pre in
-    let loop = c .before .before .before .before .before .loop in
-    counting-next (loop .inv) (pre .1) (omega arith)
-    (c .before .before .put-number .ensures)
+    let stored = c .before .before in
+    let at-loop = stored .before .before .before in
+    let start = at-loop .before .before in
+    counting-next (at-loop .loop .inv) (start .pre .1) (omega arith) (stored .put-number .ensures)
 
 same-length : tie.Need-same-length Inv-loop μ-loop
 same-length c = c .before .loop .inv .changed .long

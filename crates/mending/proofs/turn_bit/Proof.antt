@@ -1,18 +1,15 @@
 -- `mending::turn_bit` meets its contract: the bit is turned after the marks of its checks. Assumes nothing.
 use native.Mathlib.Omega.{arith}
-use Rattle.mending.proofs.Counts.{mark-bit}
-use Rattle.mending.proofs.Marks.{bit-kept, bit-turned}
+use Rattle.syndrome.proofs.Marks.{mark-bits}
+use Rattle.mending.proofs.Turning.{bit-kept, bit-turned}
 use borrow.Author.Needs.{needs}
 use Rattle.mending.proofs.turn_bit.Statement.{statement}
 use Rattle.mending.proofs.turn_bit.Tie as tie
-use Rattle.mending.proofs.turn_bit.Reads as reads
-use Rattle.mending.proofs.turn_bit.Lts as lts
-use Rattle.mending.proofs.turn_marks.Reads as turn-marks-reads
 
 turn-marks-requires : tie.Need-turn-marks-requires
 turn-marks-requires c κs =
-    let s = c .before .before in
-    (s .pre .0, mark-bit (s .args .a) (s .args .work .now) (s .pre .2), s .pre .3, s .pre .4)
+    let start = c .before .before in
+    (start .pre .0, mark-bits (start .args .a) (start .args .work .now) (start .pre .2), start .pre .3, start .pre .4)
 
 add-at : tie.Need-add-at
 add-at c = search needs
@@ -22,8 +19,10 @@ slice-read-work c = search needs
 
 sub-work : tie.Need-sub-work
 sub-work c =
-    let s = c .before .before .before .before .before .before .before in
-    omega (arith, bit-kept (s .pre .0) (c .before .before .before .before .turn-marks .ensures) (s .args .j) (s .pre .4), s .pre .1 (s .args .j))
+    let turned = c .before .before .before .before in
+    let start = turned .before .before .before in
+    let bit = bit-kept (start .pre .0) (turned .turn-marks .ensures) (start .args .j) (start .pre .4) in
+    omega (arith, bit, start .pre .1 (start .args .j))
 
 slice-write-work : tie.Need-slice-write-work
 slice-write-work c = search needs
@@ -33,8 +32,9 @@ same-length c = search needs
 
 returns : tie.Need-returns
 returns c =
-    let pre = c .before .before .before .before .before .before .before .pre in
-    bit-turned (pre .0) (pre .1) (pre .2) (pre .4) (c .before .before .before .before .turn-marks .ensures)
+    let turned = c .before .before .before .before in
+    let pre = turned .before .before .before .pre in
+    bit-turned (pre .0) (pre .1) (pre .2) (pre .4) (turned .turn-marks .ensures)
 
 pub turn-bit-spec : {M : Type 1} → statement M
 turn-bit-spec =

@@ -1,4 +1,5 @@
--- `shuffle::shuffle` meets its contract: the invariant is how far down the exchanges have come. Assumes nothing.
+-- `shuffle::shuffle` meets its contract. The invariant: to permute the first `left` bytes from the state s gives the permuted bytes and the
+-- state after all draws. What falls: `left`. Assumes nothing.
 use native.Mathlib.Omega.{arith}
 use borrow.Author.Needs.{needs}
 use Rattle.shuffle.proofs.Forwards.{Permuting, permuting-start, permuting-next, permuting-done}
@@ -34,10 +35,12 @@ loop-less c = search needs
 
 loop-again : tie.Need-loop-again Inv-loop μ-loop
 loop-again c =
-    permuting-next (c .before .before .before .before .before .before .before .loop .inv) (omega arith)
-    (c .before .before .before .before .before .next-state .ensures)
-    (c .before .before .before .drawn-place .ensures .0)
-    (c .before .before .exchange .ensures)
+    let exchanged = c .before .before in
+    let placed = exchanged .before in
+    let drawn = placed .before .before in
+    let at-loop = drawn .before .before in
+    permuting-next (at-loop .loop .inv) (omega arith) (drawn .next-state .ensures) (placed .drawn-place .ensures .0)
+    (exchanged .exchange .ensures)
 
 same-length : tie.Need-same-length Inv-loop μ-loop
 same-length c = c .before .loop .inv .long

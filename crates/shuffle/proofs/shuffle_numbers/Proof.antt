@@ -1,4 +1,5 @@
--- `shuffle::shuffle_numbers` meets its contract: the invariant is how far down the exchanges have come. Assumes nothing.
+-- `shuffle::shuffle_numbers` meets its contract. The invariant: to permute the first `left` numbers from the state s gives the permuted
+-- numbers and the state after all draws, and nothing outside the numbers is changed. What falls: `left`. Assumes nothing.
 use native.Mathlib.Omega.{arith}
 use borrow.Author.Needs.{needs}
 use Rattle.shuffle.proofs.NumberTurns.{PermutingNumbers, numbers-permuting-start, numbers-permuting-next, numbers-permuting-done}
@@ -13,8 +14,8 @@ abbrev μ-loop : tie.MeasureT-loop
 
 loop-holds : tie.Need-loop-holds Inv-loop μ-loop
 loop-holds c =
-    let a = c .before .args in
-    numbers-permuting-start (a .xs .now) (a .at) (a .n) (a .state)
+    let args = c .before .args in
+    numbers-permuting-start (args .xs .now) (args .at) (args .n) (args .state)
 
 next-state-requires : tie.Need-next-state-requires Inv-loop μ-loop
 next-state-requires c κs = search needs
@@ -36,13 +37,13 @@ loop-less c = search needs
 
 loop-again : tie.Need-loop-again Inv-loop μ-loop
 loop-again c =
-    numbers-permuting-next (c .before .before .before .before .before .before .before .loop .inv)
-    (c .before .before .before .before .before .before .before .before .before .pre .1)
-    (omega arith)
-    (c .before .before .before .drawn-place .ensures .1)
-    (c .before .before .before .before .before .next-state .ensures)
-    (c .before .before .before .drawn-place .ensures .0)
-    (c .before .before .exchange-numbers .ensures)
+    let exchanged = c .before .before in
+    let placed = exchanged .before in
+    let drawn = placed .before .before in
+    let at-loop = drawn .before .before in
+    let start = at-loop .before .before in
+    numbers-permuting-next (at-loop .loop .inv) (start .pre .1) (omega arith) (placed .drawn-place .ensures .1) (drawn .next-state .ensures)
+    (placed .drawn-place .ensures .0) (exchanged .exchange-numbers .ensures)
 
 same-length : tie.Need-same-length Inv-loop μ-loop
 same-length c = c .before .loop .inv .changed .long

@@ -1,4 +1,5 @@
--- `shuffle::unshuffle` meets its contract: the invariant is how far up the exchanges are undone. Assumes nothing.
+-- `shuffle::unshuffle` meets its contract. The invariant: the exchanges of the last `done` draws are undone, and s is the state before
+-- these draws. What falls: the exchanges left. Assumes nothing.
 use Prim.Native.Nat.{_-_}
 use native.Mathlib.Omega.{arith}
 use borrow.Author.Needs.{needs}
@@ -16,7 +17,9 @@ state-after-requires : tie.Need-state-after-requires Inv-loop μ-loop
 state-after-requires c κs = search needs
 
 loop-holds : tie.Need-loop-holds Inv-loop μ-loop
-loop-holds c = rw (c .state-after .ensures) (restoring-start (c .before .before .args .xs .now) (c .before .before .args .state))
+loop-holds c =
+    let args = c .before .before .args in
+    rw (c .state-after .ensures) (restoring-start (args .xs .now) (args .state))
 
 add-drawn-place : tie.Need-add-drawn-place Inv-loop μ-loop
 add-drawn-place c = search needs
@@ -38,12 +41,12 @@ loop-less c = search needs
 
 loop-again : tie.Need-loop-again Inv-loop μ-loop
 loop-again c =
-    restoring-next (c .before .before .before .before .before .before .before .loop .inv)
-    (c .before .before .before .before .before .before .before .before .before .before .fits .state .fits)
-    (omega arith)
-    (c .before .before .before .before .drawn-place .ensures .0)
-    (c .before .before .before .exchange .ensures)
-    (c .previous-state .ensures)
+    let exchanged = c .before .before .before in
+    let placed = exchanged .before in
+    let at-loop = placed .before .before .before in
+    let start = at-loop .before .before .before in
+    restoring-next (at-loop .loop .inv) (start .fits .state .fits) (omega arith) (placed .drawn-place .ensures .0)
+    (exchanged .exchange .ensures) (c .previous-state .ensures)
 
 same-length : tie.Need-same-length Inv-loop μ-loop
 same-length c = c .before .loop .inv .long

@@ -16,8 +16,9 @@ same-length c = search needs
 returns : tie.Need-returns
 returns c =
     let mended = c .before .before .before .before in
-    let a = mended .before .before .before .before .args in
-    stuck-word (mended .mend .ensures) (a .room) (a .message .now) (c .before .if1 .taken) (c .counted .ensures)
+    let start = mended .before .before .before .before in
+    let a = start .args in
+    stuck-word (start .pre .0) (mended .mend .ensures) (a .room) (a .message .now) (c .before .if1 .taken) (c .counted .ensures)
 
 from-accepted-requires : tie.Need-from-accepted-requires
 from-accepted-requires c κs = search needs
@@ -33,8 +34,9 @@ returns-2 c =
     let onward = c .before .before .before .before in
     let free = onward .before .before .before in
     let mended = free .before .before .before in
-    let a = mended .before .before .before .before .args in
-    mended-word (mended .mend .ensures) (a .room) (a .message .now) (free .if1 .left) (onward .from-accepted .ensures)
+    let start = mended .before .before .before .before in
+    let a = start .args in
+    mended-word (start .pre .0) (mended .mend .ensures) (a .room) (a .message .now) (free .if1 .left) (onward .from-accepted .ensures)
 
 pub from-received-spec : {M : Type 1} → statement M
 from-received-spec =

@@ -1,4 +1,5 @@
--- `symbol_reader::is_wrong_stuffing` meets its contract: the bits before i are stuffing bits. Assumes nothing.
+-- `symbol_reader::is_wrong_stuffing` meets its contract. The invariant: the bits before i are the stuffing bits. What falls: the bits
+-- left. Assumes nothing.
 use Prim.Native.Nat.{_-_}
 use mathlib.Core.Path.{sym}
 use native.Mathlib.Omega.{arith}
@@ -26,8 +27,9 @@ cast-if1 c = omega (arith, c .shared-slice-known .given (c .before .before .loop
 
 returns : tie.Need-returns Inv-loop μ-loop
 returns c =
-    let bits = c .before .before .before .before .args .bits .now in
-    sym (wrong-bit bits (c .before .before .before .loop .i) (c .before .before .loop-test .taken) (c .if1 .taken))
+    let tested = c .before .before in
+    let at-loop = tested .before in
+    sym (wrong-bit (at-loop .before .args .bits .now) (at-loop .loop .i) (tested .loop-test .taken) (c .if1 .taken))
 
 add-i : tie.Need-add-i Inv-loop μ-loop
 add-i c = search needs
@@ -37,11 +39,13 @@ loop-less c = search needs
 
 loop-again : tie.Need-loop-again Inv-loop μ-loop
 loop-again c =
-    let bits = c .before .before .before .before .args .bits .now in
-    stuffed-next bits (c .before .before .before .loop .i) (c .before .before .before .loop .inv) (c .if1 .left)
+    let at-loop = c .before .before .before in
+    stuffed-next (at-loop .before .args .bits .now) (at-loop .loop .i) (at-loop .loop .inv) (c .if1 .left)
 
 returns-2 : tie.Need-returns-2 Inv-loop μ-loop
-returns-2 c = sym (right-bits (c .before .before .args .bits .now) (c .before .loop .inv) (omega arith))
+returns-2 c =
+    let at-loop = c .before in
+    sym (right-bits (at-loop .before .args .bits .now) (at-loop .loop .inv) (omega arith))
 
 pub is-wrong-stuffing-spec : {M : Type 1} → statement M
 is-wrong-stuffing-spec =

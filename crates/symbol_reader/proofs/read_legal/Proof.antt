@@ -3,7 +3,7 @@ use mathlib.Core.Path.{sym, _∙_}
 use lib.ListN.{length}
 use Rattle.call_laws.proofs.Answers.{work-cleared}
 use Rattle.call_laws.proofs.Mending.{reads-are}
-use Rattle.lent.proofs.Buffer.{cleared-whole}
+use Rattle.lent.proofs.Clearing.{cleared-whole}
 use borrow.Author.Needs.{needs}
 use Rattle.symbol_reader.proofs.read_legal.Statement.{statement}
 use Rattle.symbol_reader.proofs.read_legal.Tie as tie
@@ -24,12 +24,12 @@ returns : tie.Need-returns
 returns c =
     let cleared = c .before .before in
     let read = cleared .before .before .before .before .before .before in
-    let s = read .before .before .before .before .before .before .before in
+    let start = read .before .before .before .before .before .before .before in
     let r = read .read-uncleared in
-    let a = s .args in
+    let a = start .args in
     reads-are (a .p) (a .list .now) (a .matrix .now) (a .work .now) (a .message .now) (r .ensures .answer-is) (r .ensures .message-is)
     (cleared-whole (r .last .1 .1 .1 .0) (cleared .clear .last .0) (r .kept .1 .1 .1 .0) (cleared .clear .ensures)
-    ∙ sym (work-cleared (a .p) (a .list .now) (a .work .now) (length (a .matrix .now)) (s .pre)))
+    ∙ sym (work-cleared (a .p) (a .list .now) (a .work .now) (length (a .matrix .now)) (start .pre .0)))
 
 pub read-legal-spec : {M : Type 1} → statement M
 read-legal-spec =

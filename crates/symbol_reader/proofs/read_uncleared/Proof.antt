@@ -3,7 +3,7 @@ use mathlib.Core.Path.{sym, _∙_}
 use native.Mathlib.Omega.{arith}
 use lib.ListN.{length}
 use Rattle.call_laws.proofs.Tests.{Legal, legal}
-use Rattle.ldpc.proofs.Work.{legal-sizes}
+use Rattle.lent.proofs.Work.{legal-sizes}
 use Rattle.symbol_reader.proofs.Received.{Sized, sized, bits-fit, bits-lent, same-room, word-received, word-asks, stuffing-told}
 use Rattle.symbol_reader.proofs.Reading.{bad-module, bad-stuffing, good-matrix}
 use borrow.Author.Needs.{needs}
@@ -12,14 +12,16 @@ use Rattle.symbol_reader.proofs.read_uncleared.Tie as tie
 
 -- parameters, list and buffers are legal
 known : (s : tie.Start) → Legal (s .args .p) (s .args .list .now) (length (s .args .matrix .now)) (length (s .args .work .now))
-known s = legal (s .args .p) (s .args .list .now) (length (s .args .matrix .now)) (length (s .args .work .now)) (s .pre)
+known s = legal (s .args .p) (s .args .list .now) (length (s .args .matrix .now)) (length (s .args .work .now)) (s .pre .0)
 
 -- the sizes and the areas
-laid : (c : tie.After-areas) → let s = c .before .before .before .before .before .before .before .before in
-    Sized (s .args .p) (s .args .list .now) (length (s .args .matrix .now)) (s .args .work .now) (c .before .sizes-of .result) (c .areas .result)
+laid : (c : tie.After-areas-for)
+    → let a = c .before .before .before .before .before .before .before .args in
+    Sized (a .p) (a .list .now) (length (a .matrix .now)) (a .work .now) (a .s) (c .areas-for .result)
 laid c =
-    let s = c .before .before .before .before .before .before .before .before in
-    sized (s .args .p) (s .args .list .now) (length (s .args .matrix .now)) (s .args .work .now) (known s) (c .before .sizes-of .ensures) (c .areas .ensures)
+    let start = c .before .before .before .before .before .before .before in
+    let a = start .args in
+    sized (a .p) (a .list .now) (length (a .matrix .now)) (a .work .now) (known start) (start .pre .1) (c .areas-for .ensures)
 
 first-bad-module-requires : tie.Need-first-bad-module-requires
 first-bad-module-requires c κs = search needs
@@ -30,28 +32,23 @@ refused-requires c κs = search needs
 returns : tie.Need-returns
 returns c =
     let found = c .before .before in
-    let s = found .before .before .before .before .before in
-    let a = s .args in
-    bad-module (a .p) (a .list .now) (a .matrix .now) (length (a .work .now)) (a .room) (a .message .now) (s .pre) (found .first-bad-module .ensures)
-    (c .before .if1 .taken) (c .refused .ensures)
+    let start = found .before .before .before .before .before in
+    let a = start .args in
+    bad-module (a .p) (a .list .now) (a .matrix .now) (length (a .work .now)) (a .room) (a .message .now) (start .pre .0)
+    (found .first-bad-module .ensures) (c .before .if1 .taken) (c .refused .ensures)
 
-sizes-of-requires : tie.Need-sizes-of-requires
-sizes-of-requires c κs = known (c .before .before .before .before .before .before) .symbol .in-range
-
-areas-requires : tie.Need-areas-requires
-areas-requires c κs =
-    let s = c .before .before .before .before .before .before .before in
-    legal-sizes (s .args .p) (s .args .list .now) (known s .symbol) (known s .enough) (c .sizes-of .ensures) .0
+areas-for-requires : tie.Need-areas-for-requires
+areas-for-requires c κs =
+    let start = c .before .before .before .before .before .before in
+    legal-sizes (start .args .p) (start .args .list .now) (known start .symbol) (start .pre .1)
 
 add-seam : tie.Need-add-seam
 add-seam c =
-    let s = c .before .before .before .before .before .before .before .before .before in
     let k = laid (c .before) in
-    omega (arith, bits-fit k, k .code .inside)
+    omega (arith, bits-fit k, k .room .sizes .inside)
 
 add-end : tie.Need-add-end
 add-end c =
-    let s = c .before .before .before .before .before .before .before .before .before .before in
     omega (arith, bits-fit (laid (c .before .before)))
 
 sub-receive : tie.Need-sub-receive
@@ -61,28 +58,30 @@ part-receive-start : tie.Need-part-receive-start
 part-receive-start c = search needs
 
 part-receive-end : tie.Need-part-receive-end
-part-receive-end c = bits-fit (laid (c .before .before))
+part-receive-end c =
+    bits-fit (laid (c .before .before))
 
 receive-requires : tie.Need-receive-requires
-receive-requires c κs = bits-lent (laid (c .before .before .before))
+receive-requires c κs =
+    bits-lent (laid (c .before .before .before))
 
 sub-is-wrong-stuffing : tie.Need-sub-is-wrong-stuffing
 sub-is-wrong-stuffing c =
     let areas = c .before .before .before .before .before .before in
-    omega (arith, laid areas .code .inside)
+    omega (arith, laid areas .room .sizes .inside)
 
 part-is-wrong-stuffing-start : tie.Need-part-is-wrong-stuffing-start
 part-is-wrong-stuffing-start c =
     let areas = c .before .before .before .before .before .before .before in
-    omega (arith, laid areas .code .inside)
+    omega (arith, laid areas .room .sizes .inside)
 
 part-is-wrong-stuffing-end : tie.Need-part-is-wrong-stuffing-end
 part-is-wrong-stuffing-end c =
     let received = c .before .before .before in
     let areas = received .before .before .before .before in
-    let s = areas .before .before .before .before .before .before .before .before in
+    let start = areas .before .before .before .before .before .before .before in
     let k = laid areas in
-    omega (arith, bits-fit k, same-room k (s .args .matrix .now) (received .receive .ensures))
+    omega (arith, bits-fit k, same-room k (start .args .matrix .now) (received .receive .ensures))
 
 is-wrong-stuffing-requires : tie.Need-is-wrong-stuffing-requires
 is-wrong-stuffing-requires c κs = search needs
@@ -98,19 +97,20 @@ returns-2 c =
     let told = c .before .before in
     let received = told .before .before .before .before .before in
     let areas = received .before .before .before .before in
-    let free = areas .before .before in
-    let s = free .before .before .before .before .before .before in
-    let a = s .args in
+    let free = areas .before in
+    let start = free .before .before .before .before .before .before in
+    let a = start .args in
     let wrong = stuffing-told (laid areas) (a .matrix .now) (received .receive .ensures) (told .is-wrong-stuffing .ensures) in
-    bad-stuffing (a .p) (a .list .now) (a .matrix .now) (length (a .work .now)) (a .room) (a .message .now) (s .pre)
+    bad-stuffing (a .p) (a .list .now) (a .matrix .now) (length (a .work .now)) (a .room) (a .message .now) (start .pre .0)
     (free .before .first-bad-module .ensures) (free .if1 .left) (sym wrong ∙ c .before .if2 .taken) (c .refused2 .ensures)
 
 from-received-requires : tie.Need-from-received-requires
 from-received-requires c κs =
-    let received = c .before .before .before .before .before .before .before .before in
+    let told = c .before .before .before in
+    let received = told .before .before .before .before .before in
     let areas = received .before .before .before .before in
-    let s = areas .before .before .before .before .before .before .before .before in
-    word-asks (laid areas) (s .args .matrix .now) (received .receive .ensures)
+    let start = areas .before .before .before .before .before .before .before in
+    word-asks (laid areas) (start .args .matrix .now) (received .receive .ensures)
 
 same-length-2 : tie.Need-same-length-2
 same-length-2 c = search needs
@@ -125,12 +125,12 @@ returns-3 c =
     let told = right .before in
     let received = told .before .before .before .before .before in
     let areas = received .before .before .before .before in
-    let free = areas .before .before in
-    let s = free .before .before .before .before .before .before in
-    let a = s .args in
+    let free = areas .before in
+    let start = free .before .before .before .before .before .before in
+    let a = start .args in
     let k = laid areas in
     let wrong = stuffing-told k (a .matrix .now) (received .receive .ensures) (told .is-wrong-stuffing .ensures) in
-    good-matrix (a .p) (a .list .now) (a .matrix .now) (length (a .work .now)) (a .room) (a .message .now) (s .pre)
+    good-matrix (a .p) (a .list .now) (a .matrix .now) (length (a .work .now)) (a .room) (a .message .now) (start .pre .0)
     (free .before .first-bad-module .ensures) (free .if1 .left) (sym wrong ∙ right .if2 .left) (k .sizes-are)
     (word-received k (a .matrix .now) (received .receive .ensures)) (onward .from-received .ensures)
 
@@ -141,8 +141,7 @@ read-uncleared-spec =
     first-bad-module-requires
     refused-requires
     returns
-    sizes-of-requires
-    areas-requires
+    areas-for-requires
     add-seam
     add-end
     sub-receive

@@ -1,4 +1,5 @@
--- `symbol_writer::stuff` meets its contract. Assumes nothing.
+-- `symbol_writer::stuff` meets its contract. The invariant: the first i places hold their stuffing bits, and the buffer keeps its length.
+-- What falls: the places left. Assumes nothing.
 use Prim.Native.Nat.{_-_}
 use native.Mathlib.Omega.{arith}
 use lib.ListN.{length-set, length}

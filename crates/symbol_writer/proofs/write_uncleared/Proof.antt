@@ -3,7 +3,7 @@ use native.Mathlib.Omega.{arith}
 use lib.ListN.{length}
 use Rattle.symbology.specs.Stream.{streamOf}
 use Rattle.call_laws.proofs.Tests.{Legal, legal}
-use Rattle.ldpc.proofs.Work.{legal-sizes}
+use Rattle.lent.proofs.Work.{legal-sizes}
 use Rattle.symbol_writer.proofs.Writing.{net-few, no-room, fits, room-enough}
 use borrow.Author.Needs.{needs}
 use Rattle.symbol_writer.proofs.write_uncleared.Statement.{statement}
@@ -11,15 +11,12 @@ use Rattle.symbol_writer.proofs.write_uncleared.Tie as tie
 
 -- parameters, list and buffers are legal
 known : (s : tie.Start) → Legal (s .args .p) (s .args .list .now) (length (s .args .matrix .now)) (length (s .args .work .now))
-known s = legal (s .args .p) (s .args .list .now) (length (s .args .matrix .now)) (length (s .args .work .now)) (s .pre)
-
-sizes-of-requires : tie.Need-sizes-of-requires
-sizes-of-requires c κs = known (c .before .before .before .before) .symbol .in-range
+known s = legal (s .args .p) (s .args .list .now) (length (s .args .matrix .now)) (length (s .args .work .now)) (s .pre .0)
 
 exceeds-net-requires : tie.Need-exceeds-net-requires
 exceeds-net-requires c κs =
-    let s = c .before .before .before .before .before in
-    omega (arith, net-few (legal-sizes (s .args .p) (s .args .list .now) (known s .symbol) (known s .enough) (c .sizes-of .ensures) .0))
+    let start = c .before .before .before .before in
+    omega (arith, net-few (legal-sizes (start .args .p) (start .args .list .now) (known start .symbol) (start .pre .1)))
 
 answered-requires : tie.Need-answered-requires
 answered-requires c κs = search needs
@@ -27,20 +24,20 @@ answered-requires c κs = search needs
 returns : tie.Need-returns
 returns c =
     let told = c .before .before in
-    let s = told .before .before .before .before .before .before in
-    no-room (s .args .p) (s .args .list .now) (streamOf (s .args .message .now)) (s .args .matrix .now) (length (s .args .work .now)) (s .pre)
-    (told .before .sizes-of .ensures) (told .exceeds-net .ensures) (c .before .if1 .taken) (c .answered .ensures)
+    let start = told .before .before .before .before .before in
+    let a = start .args in
+    no-room (a .p) (a .list .now) (streamOf (a .message .now)) (a .matrix .now) (length (a .work .now)) (start .pre .0)
+    (start .pre .1) (told .exceeds-net .ensures) (c .before .if1 .taken) (c .answered .ensures)
 
 store-matrix-requires : tie.Need-store-matrix-requires
 store-matrix-requires c κs =
     let told = c .before .before .before in
-    let s = told .before .before .before .before .before .before in
-    let sizes = told .before .sizes-of .ensures in (
-      s .pre,
-      sizes,
-      fits (s .args .p) (s .args .list .now) (streamOf (s .args .message .now)) (s .args .matrix .now) (length (s .args .work .now)) (s .pre)
-          sizes (told .exceeds-net .ensures) (c .before .before .if1 .left),
-    )
+    let start = told .before .before .before .before .before in
+    let a = start .args in
+    let few =
+    fits (a .p) (a .list .now) (streamOf (a .message .now)) (a .matrix .now) (length (a .work .now)) (start .pre .0)
+    (start .pre .1) (told .exceeds-net .ensures) (c .before .before .if1 .left) in
+    (start .pre .0, start .pre .1, few)
 
 answered-requires-2 : tie.Need-answered-requires-2
 answered-requires-2 c κs = search needs
@@ -56,15 +53,15 @@ returns-2 c =
     let stored = c .before .before .before .before .before in
     let fitting = stored .before .before .before in
     let told = fitting .before in
-    let s = told .before .before .before .before .before .before in
-    room-enough (s .args .p) (s .args .list .now) (streamOf (s .args .message .now)) (s .args .matrix .now) (length (s .args .work .now)) (s .pre)
-    (told .before .sizes-of .ensures) (told .exceeds-net .ensures) (fitting .if1 .left) (stored .store-matrix .ensures) (c .answered2 .ensures)
+    let start = told .before .before .before .before .before in
+    let a = start .args in
+    room-enough (a .p) (a .list .now) (streamOf (a .message .now)) (a .matrix .now) (length (a .work .now)) (start .pre .0)
+    (start .pre .1) (told .exceeds-net .ensures) (fitting .if1 .left) (stored .store-matrix .ensures) (c .answered2 .ensures)
 
 pub write-uncleared-spec : {M : Type 1} → statement M
 write-uncleared-spec =
     tie.close
     (tie.spec
-    sizes-of-requires
     exceeds-net-requires
     answered-requires
     returns

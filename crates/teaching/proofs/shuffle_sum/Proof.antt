@@ -25,12 +25,15 @@ same-length-3 c = search needs
 
 returns : tie.Need-returns
 returns c =
-    let s = c .before .before .before .before .before .before .before .before .before .before .before .before .before .before .before in
-    let first = c .before .before .before .before .before .before .before .before .before .before .shuffle .ensures .0 in
-    let second = c .before .before .before .before .before .before .shuffle2 .ensures .0 in
-    let third = c .before .before .shuffle3 .ensures .0 in
-    let long = s .pre .0 ∙ sym (s .pre .1) in
-    ((first, second, third), shuffles-add (s .args .state) (s .args .x .now) (s .args .y .now) long first second third)
+    let third = c .before .before in
+    let second = third .before .before .before .before in
+    let first = second .before .before .before .before in
+    let start = first .before .before .before .before .before in
+    let x = first .shuffle .ensures .0 in
+    let y = second .shuffle2 .ensures .0 in
+    let sum = third .shuffle3 .ensures .0 in
+    let long = start .pre .0 ∙ sym (start .pre .1) in
+    ((x, y, sum), shuffles-add (start .args .state) (start .args .x .now) (start .args .y .now) long x y sum)
 
 pub shuffle-sum-spec : {M : Type 1} → statement M
 shuffle-sum-spec =

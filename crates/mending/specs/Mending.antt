@@ -1,0 +1,38 @@
+-- The rule, run over the work buffer.
+-- Assumes nothing.
+use Prim.Native.Nat.{ℕ, _≤_}
+use mathlib.Core.Path.{_≡_}
+use mathlib.Core.Bool.{Bool}
+use mathlib.Core.List.{List, [], _∷_}
+use lib.ListN.{length}
+use Rattle.symbology.specs.Bits.{AllBits}
+use Rattle.symbology.specs.Rule.{unmetCount, turned, repairsOf, lastWord, stuck}
+use Rattle.lent.specs.declared.Areas.{Areas}
+use Rattle.lent.specs.Changes.{Changed}
+use Rattle.lent.specs.Work.{wordRowSpan, marksSpan, wordSpan, numbersSpan, wordIn}
+use Rattle.checks.specs.Checks.{checksIn}
+use Rattle.syndrome.specs.Syndrome.{Marked}
+use Rattle.balances.specs.Balances.{Balanced}
+
+-- the word consists of bits
+abbrev pub BitsIn : Areas → List ℕ → Type 0
+BitsIn a work = AllBits (wordIn a work)
+
+-- bit j of the word is turned, marks and balances are those of the new word, and nothing else is changed
+pub record BitTurned (a : Areas) (j : ℕ) (before after : List ℕ) : Type 0 where
+  pub changed : Changed (marksSpan a ∷ wordSpan a ∷ numbersSpan a ∷ []) before after
+  pub word-is : wordIn a after ≡ turned (wordIn a before) j
+  pub marked : Marked a after
+  pub balanced : Balanced a after
+
+-- The word is the last of the rule's run from the word before, the count is that of its repairs and at most the first unmet count,
+-- and the word is stuck as the rule says. The marks are those of the last word; only marks, word, numbers and the row behind the rows
+-- are changed. The numbers and that row are scratch then: nothing is said of them.
+pub record MendedBy (a : Areas) (before after : List ℕ) (repairs first : ℕ) (isStuck : Bool) : Type 0 where
+  pub changed : Changed (wordRowSpan a ∷ marksSpan a ∷ wordSpan a ∷ numbersSpan a ∷ []) before after
+  pub word-is : wordIn a after ≡ lastWord (checksIn a before) (wordIn a before)
+  pub repairs-are : repairs ≡ length (repairsOf (checksIn a before) (wordIn a before))
+  pub first-is : first ≡ unmetCount (checksIn a before) (wordIn a before)
+  pub bounded : repairs ≤ first
+  pub stuck-is : isStuck ≡ stuck (checksIn a before) (wordIn a before)
+  pub marked : Marked a after
