@@ -60,7 +60,7 @@ typedef struct {
  *    6  write: the message's stream and its end mark exceed the net bits. They take 1 bit for an empty message, 8 * n + 12 for n
  *       bytes from 1 to 15, and 8 * n + 25 for more; no symbol has room for a message that would take a second run
  *    7  read: a module is N or more. The place is the first such module's index in the matrix, counted from 0
- *    8  read: a stuffing bit is wrong
+ *    8  retired: no call gives it. It meant a wrong stuffing bit, which is counted now and refuses nothing
  *    9  read: the word cannot be mended (stuck)
  *   10  read: a spare message column is 1
  *   11  read: the net bits are all 0
@@ -89,13 +89,14 @@ typedef struct {
     uint64_t place;
 } jab_write_answer;
 
-/* The answer of jab_read. On a refusal the length is 0; with 1 to 8 the two counts are 0. */
+/* The answer of jab_read. On a refusal the length is 0. The three counts are given with 0 and with 9 to 14, and are 0 with 1 to 5 and 7. */
 typedef struct {
-    uint64_t number; /* 0 to 14, never 6 */
+    uint64_t number; /* 0 to 14, never 6 or 8 */
     uint64_t place;
-    uint64_t length;  /* of the message, in bytes */
-    uint64_t repairs; /* never more than unmet */
-    uint64_t unmet;   /* the checks that were unmet in the word received */
+    uint64_t length;   /* of the message, in bytes */
+    uint64_t repairs;  /* never more than unmet */
+    uint64_t unmet;    /* the checks that were unmet in the word received */
+    uint64_t stuffing; /* the stuffing bits that were wrong, 0 to 8; they lie outside the word and say nothing about it */
 } jab_read_answer;
 
 /* What a symbol needs. */

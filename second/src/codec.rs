@@ -6,8 +6,9 @@ use crate::params::{Params, Refusal, Sizes};
 use crate::stream;
 use crate::symbol::Symbol;
 
-/// What a read answers. Length is 0 on a refusal; repairs and unmet checks are
-/// 0 with the answers 1 to 8.
+/// What a read answers. Length is 0 on a refusal. Repairs, unmet checks and
+/// wrong stuffing bits are counted in every read that passes test 7, whatever
+/// its number, and are 0 in others.
 #[derive(Clone, Copy, Debug, PartialEq, Eq)]
 pub struct ReadAnswer {
     pub number: u32,
@@ -15,16 +16,19 @@ pub struct ReadAnswer {
     pub length: usize,
     pub repairs: usize,
     pub unmet: usize,
+    pub stuffing: usize,
 }
 
 impl ReadAnswer {
-    fn refused(refusal: Refusal, repairs: usize, unmet: usize) -> ReadAnswer {
+    /// The answer where nothing is counted.
+    fn uncounted(refusal: Refusal) -> ReadAnswer {
         ReadAnswer {
             number: refusal.number,
             place: refusal.place,
             length: 0,
-            repairs,
-            unmet,
+            repairs: 0,
+            unmet: 0,
+            stuffing: 0,
         }
     }
 }
@@ -83,37 +87,34 @@ pub fn read(
 ) -> ReadAnswer {
     match lawful(p, list, matrix.len(), work) {
         Ok(symbol) => read_symbol(&symbol, matrix, message),
-        Err(refusal) => ReadAnswer::refused(refusal, 0, 0),
+        Err(refusal) => ReadAnswer::uncounted(refusal),
     }
 }
 
 fn read_symbol(symbol: &Symbol, matrix: &[u8], message: &mut [u8]) -> ReadAnswer {
     let colours = symbol.params().colours;
     if let Some(place) = matrix.iter().position(|&m| u32::from(m) >= colours) {
-        return ReadAnswer::refused(Refusal { number: 7, place }, 0, 0);
+        return ReadAnswer::uncounted(Refusal { number: 7, place });
     }
+    let mut answer = ReadAnswer::uncounted(Refusal::NONE);
     let mut word = symbol.undo_interleaving(&symbol.pick(matrix));
-    if !symbol.stuffing_is_right(&word) {
-        return ReadAnswer::refused(Refusal::plain(8), 0, 0);
-    }
+    // the bits behind the word say nothing about it, so they refuse nothing
+    answer.stuffing = symbol.wrong_stuffing(&word);
     word.truncate(symbol.lengths().gross);
     let checks = symbol.check_matrix();
     let mending = mend(checks.rows(), &mut word);
-    let (repairs, unmet) = (mending.turned.len(), mending.unmet);
+    answer.repairs = mending.turned.len();
+    answer.unmet = mending.unmet;
     if mending.stuck {
-        return ReadAnswer::refused(Refusal::plain(9), repairs, unmet);
+        answer.number = 9;
+        return answer;
     }
     let held = checks.eliminate().message(&word);
     match message_of(&held, symbol.lengths().net, message) {
-        Ok(length) => ReadAnswer {
-            number: 0,
-            place: 0,
-            length,
-            repairs,
-            unmet,
-        },
-        Err(number) => ReadAnswer::refused(Refusal::plain(number), repairs, unmet),
+        Ok(length) => answer.length = length,
+        Err(number) => answer.number = number,
     }
+    answer
 }
 
 /// From the bits of the message columns to the length of the message, which is

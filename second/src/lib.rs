@@ -1,9 +1,9 @@
 //! A second codec for JAB Code symbols: message bytes to a matrix of colour
 //! indices, and a sampled matrix back to bytes.
 //!
-//! It was written from document 01, the papers it names and the readings of them
-//! in docs/DECISIONS.md, without sight of the proved library, so that its answers
-//! can stand beside that library's.
+//! It was written from the documents 01 and 02, the papers they name and the
+//! readings of them in docs/DECISIONS.md, without sight of the proved library, so
+//! that its answers can stand beside that library's.
 
 #![forbid(unsafe_code)]
 

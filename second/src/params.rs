@@ -32,6 +32,9 @@ pub struct Sizes {
     pub checks: usize,
 }
 
+/// The number that wrong stuffing once had; no call gives it any more.
+pub const RETIRED: u32 = 8;
+
 /// A number of document 01's list and its place; number 0 is no refusal.
 #[derive(Clone, Copy, Debug, PartialEq, Eq)]
 pub struct Refusal {

@@ -82,7 +82,11 @@ fn answer_of<const N: usize>(p: &Params, call: impl FnOnce(*const u32, *mut u64)
     );
     let answer: [u64; N] = lent[FRONT..FRONT + N].try_into().expect("N numbers");
     assert_eq!(params, given, "the parameters and what is around them");
-    assert_eq!(lent, guarded(WIDE_GUARD, &answer), "what is around the answer");
+    assert_eq!(
+        lent,
+        guarded(WIDE_GUARD, &answer),
+        "what is around the answer"
+    );
     answer
 }
 
@@ -155,7 +159,7 @@ pub fn read(
 ) -> ReadAnswer {
     // SAFETY: as in `sizes`; work and message are borrowed exclusively, so they
     // overlap nothing.
-    let [number, place, length, repairs, unmet] = answer_of(p, |params, answer| unsafe {
+    let [number, place, counts @ ..]: [u64; 6] = answer_of(p, |params, answer| unsafe {
         jab_read(
             params,
             list.as_ptr(),
@@ -169,11 +173,13 @@ pub fn read(
             answer,
         )
     });
+    let [length, repairs, unmet, stuffing] = counts.map(|count| count as usize);
     ReadAnswer {
         number: narrow(number),
         place: place as usize,
-        length: length as usize,
-        repairs: repairs as usize,
-        unmet: unmet as usize,
+        length,
+        repairs,
+        unmet,
+        stuffing,
     }
 }

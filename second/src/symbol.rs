@@ -93,11 +93,12 @@ impl Symbol {
         sequence
     }
 
-    /// Whether the bits behind the word are the stuffing bits.
-    pub fn stuffing_is_right(&self, sequence: &Bits) -> bool {
-        let gross = self.lengths.gross;
-        (gross..self.lengths.capacity)
-            .all(|place| sequence.get(place) == ((place - gross) % 2 == 1))
+    /// How many of the bits behind the word are not the stuffing bits.
+    pub fn wrong_stuffing(&self, sequence: &Bits) -> usize {
+        let found = sequence.iter().skip(self.lengths.gross).enumerate();
+        found
+            .filter(|&(place, bit)| bit != (place % 2 == 1))
+            .count()
     }
 
     pub fn interleave(&self, sequence: &Bits) -> Bits {

@@ -42,7 +42,8 @@ impl Lent {
 
     fn number(&self, matrix: &[u8]) -> u32 {
         let answer = self.read(matrix);
-        assert_eq!((answer.repairs, answer.unmet), (0, 0));
+        let counts = (answer.repairs, answer.unmet, answer.stuffing);
+        assert_eq!(counts, (0, 0, 0));
         answer.number
     }
 }
@@ -92,7 +93,9 @@ fn stuffing_spare_columns_and_zeros() {
     for wrong in 1_044..1_047 {
         let mut sequence = symbol.stuffed(&Bits::zeros(1_044));
         sequence.flip(wrong);
-        assert_eq!(lent.number(&symbol.matrix_of_sequence(&sequence)), 8);
+        let answer = lent.read(&symbol.matrix_of_sequence(&sequence));
+        let counts = (answer.repairs, answer.unmet, answer.stuffing);
+        assert_eq!((answer.number, counts), (11, (0, 0, 1)));
     }
     let spare = symbol.systematic().message_columns().len() - 696;
     for place in 0..spare {

@@ -110,7 +110,8 @@ fn the_greatest_symbol() {
 
 /// Turns each bit of a symbol alone. The three checks of a turned bit are unmet
 /// then; a lower bit that shares two of them is turned first, and the word may
-/// stick.
+/// stick. A stuffing bit stands in no check: the message is read, and the bit
+/// is counted.
 #[test]
 fn single_turned_bits() {
     let parameters = params();
@@ -128,10 +129,11 @@ fn single_turned_bits() {
             damaged[index] ^= 1 << bit;
             let mut back = [0; 200];
             let answer = read(&parameters, &list, &damaged, &mut work, &mut back);
-            match (answer.number, answer.repairs) {
-                (0, 1) if &back[..answer.length] == message => mended += 1,
-                (9, _) => stuck += 1,
-                (8, _) => stuffing += 1,
+            let is_message = &back[..answer.length] == message;
+            match (answer.number, answer.repairs, answer.stuffing) {
+                (0, 1, 0) if is_message => mended += 1,
+                (0, 0, 1) if is_message && answer.unmet == 0 => stuffing += 1,
+                (9, _, 0) => stuck += 1,
                 _ => other += 1,
             }
         }

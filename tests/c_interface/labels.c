@@ -1,5 +1,5 @@
-/* Labels through the C interface: written, read back, damaged and refused. What is expected follows from document 01, or was
- * computed by another program, which is said there. Exits with 1 at the first answer that differs. Symbols keep to document 01's limits for
+/* Labels through the C interface: written, read back, damaged and refused. What is expected follows from documents 01 and 02, or
+ * was computed by another program, which is said there. Exits with 1 at the first answer that differs. Symbols keep to document 01's limits for
  * programs: C at most 1,047, wc 3, wr 9, at most 53,964 work bytes. */
 #include "jabcode.h"
 #include <inttypes.h>
@@ -11,7 +11,7 @@
 _Static_assert(sizeof(jab_params) == 11 * sizeof(uint32_t), "jab_params");
 _Static_assert(sizeof(jab_sizes_answer) == 9 * sizeof(uint64_t), "jab_sizes_answer");
 _Static_assert(sizeof(jab_write_answer) == 2 * sizeof(uint64_t), "jab_write_answer");
-_Static_assert(sizeof(jab_read_answer) == 5 * sizeof(uint64_t), "jab_read_answer");
+_Static_assert(sizeof(jab_read_answer) == 6 * sizeof(uint64_t), "jab_read_answer");
 
 enum { SIDE = 21, MODULES = SIDE * SIDE, MOST_WORK = 53964, ROOM = 120, FILL = 0xA5 };
 
@@ -150,12 +150,13 @@ static void round_trips(void) {
     printf("c_interface: %u labels read back\n", labels);
 }
 
-/* The 1,047 bits of a label, turned one at a time. Three of them are stuffing bits: 8. Each other bit stands in wc = 3 checks, so 3
- * are unmet at first, and the bit itself is suspect. Each repair lowers their number, and one that leaves none unmet turns a bit
- * whose three checks were all unmet: so a word that is mended has 1 repair, and one that is stuck 1 or 2. No two columns of this A
- * stand in the same three checks, so the bit that is turned and leaves none unmet is the damaged one, and the message the right one.
- * That, and that 949 of the 1,044 are mended, was computed by another program, which follows the library's definitions of A and of the
- * rule, not its code; the second program, written from the papers alone, gave 949, 95 and 3 too (second/tests/round_trips.rs). */
+/* The 1,047 bits of a label, turned one at a time. Three of them are stuffing bits, which are counted and refuse nothing (document 02,
+ * W-202): the label is read with no repair. Each other bit stands in wc = 3 checks, so 3 are unmet at first, and the bit itself is
+ * suspect. Each repair lowers their number, and one that leaves none unmet turns a bit whose three checks were all unmet: so a word that
+ * is mended has 1 repair, and one that is stuck 1 or 2. No two columns of this A stand in the same three checks, so the bit that is
+ * turned and leaves none unmet is the damaged one, and the message the right one. That, and that 949 of the 1,044 are mended, was
+ * computed by another program, which follows the library's definitions of A and of the rule, not its code; the second program, written
+ * from the papers alone, gave 949, 95 and 3 too (second/tests/round_trips.rs). */
 static void one_bit_turned(void) {
     uint8_t bytes[80], clean[MODULES];
     unsigned stuffing = 0, mended = 0, stuck = 0;
@@ -168,18 +169,16 @@ static void one_bit_turned(void) {
             memcpy(matrix, clean, MODULES);
             matrix[i] ^= bit;
             jab_read_answer answer = read_label(&small, 24, ROOM);
-            if (answer.number == 8) {
-                expect_read("a stuffing bit turned", answer, (jab_read_answer){.number = 8});
-                stuffing++;
-                continue;
-            }
             if (answer.number == 9) {
                 expect_read("a bit turned and stuck", answer,
                             (jab_read_answer){.number = 9, .repairs = answer.repairs == 1 ? 1 : 2, .unmet = 3});
                 stuck++;
                 continue;
             }
-            if (answer.repairs == 0) {
+            if (answer.stuffing != 0) {
+                expect_read("a stuffing bit turned", answer, (jab_read_answer){.length = sizeof bytes, .stuffing = 1});
+                stuffing++;
+            } else if (answer.repairs == 0) {
                 /* a pattern or reserved module, which the reader does not compare */
                 expect_read("a module that holds no data", answer, (jab_read_answer){.length = sizeof bytes});
             } else {
@@ -189,15 +188,15 @@ static void one_bit_turned(void) {
             must("the message of a damaged label", memcmp(message, bytes, sizeof bytes) == 0);
         }
     }
-    printf("c_interface: one bit turned: %u mended, %u stuck, %u stuffing\n", mended, stuck, stuffing);
+    printf("c_interface: one bit turned: %u mended, %u stuck, %u read with a wrong stuffing bit\n", mended, stuck, stuffing);
     must("949 mended, 95 stuck, 3 stuffing", mended == 949 && stuck == 95 && stuffing == 3);
 }
 
 /* Labels with up to 40 modules of another colour: whatever is answered, there are no more repairs than checks unmet at first, of 348
- * in all, and 8 has no counts. */
+ * in all, and no more wrong stuffing bits than the three there are. */
 static void many_modules_turned(void) {
     uint8_t bytes[60], clean[MODULES];
-    unsigned numbers[15] = {0};
+    unsigned numbers[15] = {0}, stuffed = 0;
     uint32_t random = 12345;
     reserve(24, 7);
     label(bytes, sizeof bytes, 3);
@@ -210,18 +209,19 @@ static void many_modules_turned(void) {
             matrix[(random >> 8) % MODULES] ^= 1 + (random >> 24) % 7;
         }
         jab_read_answer answer = read_label(&small, 24, ROOM);
-        must("0, or 8 to 14", answer.number == 0 || (answer.number >= 8 && answer.number <= 14));
+        must("0, or 9 to 14", answer.number == 0 || (answer.number >= 9 && answer.number <= 14));
         must("a place", answer.place == 0);
         must("no more repairs than unmet checks", answer.repairs <= answer.unmet && answer.unmet <= 348);
-        if (answer.number == 8)
-            expect_read("no counts with 8", answer, (jab_read_answer){.number = 8});
+        must("no more wrong stuffing bits than there are", answer.stuffing <= 3);
+        stuffed += answer.stuffing != 0;
         numbers[answer.number]++;
     }
     printf("c_interface: up to 40 modules turned:");
     for (unsigned n = 0; n < 15; n++)
         if (numbers[n] != 0)
             printf(" %u answered %u,", numbers[n], n);
-    printf(" no rule broken\n");
+    printf(" %u with wrong stuffing bits, no rule broken\n", stuffed);
+    must("some with wrong stuffing bits", stuffed != 0);
 }
 
 /* a write and a read that one of the tests 1 to 5 refuses: same answer, and every buffer as it came */

@@ -19,7 +19,7 @@ Params = record("jab_params", ctypes.c_uint32,
 SizesAnswer = record("jab_sizes_answer", ctypes.c_uint64,
                      "number", "place", "columns", "rows", "capacity", "net", "work", "gross", "checks")
 WriteAnswer = record("jab_write_answer", ctypes.c_uint64, "number", "place")
-ReadAnswer = record("jab_read_answer", ctypes.c_uint64, "number", "place", "length", "repairs", "unmet")
+ReadAnswer = record("jab_read_answer", ctypes.c_uint64, "number", "place", "length", "repairs", "unmet", "stuffing")
 
 
 def call(function, answer, params, *buffers):
@@ -54,6 +54,6 @@ text = "".join("".join(map(str, matrix[r * columns:(r + 1) * columns])) + "\n" f
 assert text == open(sys.argv[3]).read(), text
 
 back = (ctypes.c_uint8 * 100)()
-assert call(jab.jab_read, ReadAnswer, params, reserved, matrix, work, back) == [0, 0, len(tray), 0, 0]
+assert call(jab.jab_read, ReadAnswer, params, reserved, matrix, work, back) == [0, 0, len(tray), 0, 0, 0]
 assert bytes(back[:len(tray)]) == tray
 print("c_interface: the same label written and read from Python")

@@ -18,20 +18,22 @@ use Rattle.symbology.specs.Capacity.{sizesFor}
 use Rattle.symbology.specs.Rule.{lastWord}
 use Rattle.symbology.specs.Code.{checksFor, messageBitsFor}
 use Rattle.symbology.specs.Net.{upToLastOne, streamIn}
-use Rattle.symbology.specs.Symbol.{receivedWord}
+use Rattle.symbology.specs.Symbol.{receivedWord, wrongStuffing}
 use Rattle.symbology.proofs.Ranges.{clash, and-left, and-right}
 use Rattle.laws.proofs.Ranges.{by}
 use Rattle.laws.proofs.Stream.{decode-few}
+use Rattle.laws.proofs.Symbols.{wrong-few}
 use Rattle.calls.specs.declared.Answer.{Answer}
 use Rattle.calls.specs.declared.Counts.{Counts}
 use Rattle.calls.specs.declared.ReadAnswer.{ReadAnswer}
 use Rattle.calls.specs.Answers.{answer, noCounts, counted, refused, done, countsIn}
 use Rattle.calls.specs.Tests.{Row, firstOf, stuckWord, sizeRows, frontRows, writeRows, earlyRows, streamRows, acceptedRows, isLegal}
+use Rattle.calls.specs.Tests.{reachesChecks}
 use Rattle.calls.specs.Write.{writeAnswer, matrixAfterWrite, workAfter}
 use Rattle.calls.specs.Read.{messageInAccepted, messageIn, frontAfter, answerFromAccepted}
 use Rattle.calls.specs.Read.{countsOf, answerFromReceived, readAnswer, readRows}
 use Rattle.call_laws.proofs.Tests.{each-all, each-computed, each-map, numbersOf, first-append, first-map, first-keeps}
-use Rattle.call_laws.proofs.Stages.{accepted-table, read-keeps}
+use Rattle.call_laws.proofs.Stages.{accepted-table, reaches-legal, read-keeps}
 
 -- ---- document 01, "Numbers returned"
 
@@ -43,7 +45,7 @@ write-numbers p l stream modules work = refl
 
 -- The rows of a read, in document 01's order.
 pub read-numbers : (p : Params) (l matrix : List ℕ) (work room : ℕ)
-    → numbersOf (readRows p l matrix work room) ≡ (1 ∷ 2 ∷ 3 ∷ 4 ∷ 5 ∷ 7 ∷ 8 ∷ 9 ∷ 10 ∷ 11 ∷ 12 ∷ 13 ∷ 14 ∷ [])
+    → numbersOf (readRows p l matrix work room) ≡ (1 ∷ 2 ∷ 3 ∷ 4 ∷ 5 ∷ 7 ∷ 9 ∷ 10 ∷ 11 ∷ 12 ∷ 13 ∷ 14 ∷ [])
 unfolding sizeRows frontRows earlyRows streamRows acceptedRows readRows
 read-numbers p l matrix work room = refl
 
@@ -58,7 +60,7 @@ unfolding readAnswer readRows answerFromReceived
 read-table p l matrix work room =
     let s : Sizes = sizesFor p l in
     let w : List ℕ = receivedWord p l matrix in
-    let c : Counts = countsOf s w in
+    let c : Counts = countsOf p l matrix in
     let last : List ℕ = lastWord (checksFor s) w in
     let early : List Row = earlyRows p l matrix work in
     let late : List Row = stuckWord s w ∷ acceptedRows s last room in
@@ -74,10 +76,10 @@ read-table p l matrix work room =
 
 -- the numbers that a read answers, and those before the checks
 abbrev pub readNumbers : List ℕ
-readNumbers = 0 ∷ 1 ∷ 2 ∷ 3 ∷ 4 ∷ 5 ∷ 7 ∷ 8 ∷ 9 ∷ 10 ∷ 11 ∷ 12 ∷ 13 ∷ 14 ∷ []
+readNumbers = 0 ∷ 1 ∷ 2 ∷ 3 ∷ 4 ∷ 5 ∷ 7 ∷ 9 ∷ 10 ∷ 11 ∷ 12 ∷ 13 ∷ 14 ∷ []
 
 abbrev pub earlyNumbers : List ℕ
-earlyNumbers = 1 ∷ 2 ∷ 3 ∷ 4 ∷ 5 ∷ 7 ∷ 8 ∷ []
+earlyNumbers = 1 ∷ 2 ∷ 3 ∷ 4 ∷ 5 ∷ 7 ∷ []
 
 -- number, place, length and counts as document 01 has them
 pub record ReadAnswerIs (a : ReadAnswer) : Type 0 where
@@ -85,6 +87,7 @@ pub record ReadAnswerIs (a : ReadAnswer) : Type 0 where
   pub place-is : has (a .number) (2 ∷ 7 ∷ []) ≡ false → a .place ≡ 0
   pub length-is : (a .number ≡ 0 → ⊥) → a .length ≡ 0
   pub counts-are : has (a .number) earlyNumbers ≡ true → countsIn a ≡ noCounts
+  pub stuffing-most : a .stuffing ≤ 8
 
 -- what the rows of a read have: one of its numbers, and place 0 but with 2 and 7; those behind the checks none of the numbers before
 regular : Row → Bool
@@ -107,11 +110,12 @@ early-is r f =
       place-is = row-place r f;
       length-is = λ some. refl;
       counts-are = λ before. refl;
+      stuffing-most = omega arith;
     }
 
-late-is : (c : Counts) (r : Row) → late r ≡ true → ReadAnswerIs (counted c (r .number) (r .place))
+late-is : (c : Counts) → c .stuffing ≤ 8 → (r : Row) → late r ≡ true → ReadAnswerIs (counted c (r .number) (r .place))
 unfolding regular late
-late-is c r f =
+late-is c few r f =
     let fine : regular r ≡ true = and-left (regular r) (not (has (r .number) earlyNumbers)) f in
     let behind : not (has (r .number) earlyNumbers) ≡ true = and-right (regular r) (not (has (r .number) earlyNumbers)) f in
     record {
@@ -119,42 +123,48 @@ late-is c r f =
       place-is = row-place r fine;
       length-is = λ some. refl;
       counts-are = λ before. clash before (not-true (has (r .number) earlyNumbers) behind);
+      stuffing-most = few;
     }
 
--- A read answers 0 to 14 but not 6, its place is 0 but with 2 and 7, a refusal has length 0, and with 1 to 8 the counts are 0.
+-- A read answers 0 to 14 but not 6 and 8, its place is 0 but with 2 and 7, a refusal has length 0, with 1 to 7 the counts are 0, and at
+-- most 8 stuffing bits are wrong.
 pub read-answer : (p : Params) (l matrix : List ℕ) (work room : ℕ) → ReadAnswerIs (readAnswer p l matrix work room)
 unfolding allHold has sizeRows frontRows earlyRows streamRows acceptedRows regular late
 read-answer p l matrix work room =
     let s : Sizes = sizesFor p l in
     let w : List ℕ = receivedWord p l matrix in
-    let c : Counts = countsOf s w in
+    let c : Counts = countsOf p l matrix in
     let early : List Row = earlyRows p l matrix work in
     let behind : List Row = stuckWord s w ∷ acceptedRows s (lastWord (checksFor s) w) room in
     read-keeps p l matrix work room ReadAnswerIs
     (each-map (λ r. regular r ≡ true) (λ r. r .test ≡ true → ReadAnswerIs (refused (r .number) (r .place))) (λ r f t. early-is r f) early
     (each-computed regular early refl))
     (λ e.
-    each-map (λ r. late r ≡ true) (λ r. r .test ≡ true → ReadAnswerIs (counted c (r .number) (r .place))) (λ r f t. late-is c r f) behind
-    (each-computed late behind refl))
+    each-map (λ r. late r ≡ true) (λ r. r .test ≡ true → ReadAnswerIs (counted c (r .number) (r .place)))
+    (λ r f t. late-is c (few e) r f) behind (each-computed late behind refl))
     (λ e fits. record {
       number-is = refl;
       place-is = λ other. refl;
       length-is = λ some. absurd (some refl);
       counts-are = λ z. clash z refl;
+      stuffing-most = few e;
     })
+  where
+    few : reachesChecks p l matrix work ≡ true → wrongStuffing p l matrix ≤ 8
+    few e = wrong-few p l matrix (reaches-legal p l matrix work e .symbol .in-range)
 
 -- an answer of 0 is no row's
 never-zero : (Q : ReadAnswer → Type 0) (p : Params) (l matrix : List ℕ) (work room : ℕ)
     → (let m = messageIn p l matrix in
     length m ≤ room
-    → Q (done (countsOf (sizesFor p l) (receivedWord p l matrix)) (length m)))
+    → Q (done (countsOf p l matrix) (length m)))
     → readAnswer p l matrix work room .number ≡ 0
     → Q (readAnswer p l matrix work room)
 unfolding allHold sizeRows frontRows earlyRows streamRows acceptedRows messageIn
 never-zero Q p l matrix work room last =
     let s : Sizes = sizesFor p l in
     let w : List ℕ = receivedWord p l matrix in
-    let c : Counts = countsOf s w in
+    let c : Counts = countsOf p l matrix in
     let R : ReadAnswer → Type 0 = λ a. a .number ≡ 0 → Q a in
     let some : Row → Bool = λ r. not (eqb (r .number) 0) in
     let early : List Row = earlyRows p l matrix work in
@@ -179,7 +189,7 @@ read-length p l matrix work room =
 pub read-fits : (p : Params) (l matrix : List ℕ) (work room : ℕ) → readAnswer p l matrix work room .length ≤ room
 read-fits p l matrix work room =
     let Q : ReadAnswer → Type 0 = λ a. a .length ≤ room in
-    let c : Counts = countsOf (sizesFor p l) (receivedWord p l matrix) in
+    let c : Counts = countsOf p l matrix in
     read-keeps p l matrix work room Q (each-all (λ r. r .test ≡ true → Q (refused (r .number) (r .place))) (λ r t. omega arith) _)
     (λ e. each-all (λ r. r .test ≡ true → Q (counted c (r .number) (r .place))) (λ r t. omega arith) _)
     (λ e fits. fits)

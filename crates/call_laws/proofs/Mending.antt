@@ -24,12 +24,12 @@ use Rattle.calls.specs.declared.Counts.{Counts}
 use Rattle.calls.specs.declared.ReadAnswer.{ReadAnswer}
 use Rattle.calls.specs.Answers.{counted, countsIn}
 use Rattle.calls.specs.Tests.{Row, reachesChecks, streamRows, acceptedRows}
-use Rattle.calls.specs.Read.{answerFromAccepted, countsOf, readAnswer, messageIn, frontAfter}
+use Rattle.calls.specs.Read.{answerFromAccepted, receivedCounts, countsOf, readAnswer, messageIn, frontAfter}
 use Rattle.calls.specs.Write.{workAfter}
 use Rattle.calls.specs.Mending.{Mends}
 use Rattle.calls.specs.Contracts.{Reads}
 use Rattle.call_laws.proofs.Tests.{each-computed, each-map}
-use Rattle.call_laws.proofs.Stages.{accepted-keeps, from-stuck, from-mended, reaches-legal, reaches-gives}
+use Rattle.call_laws.proofs.Stages.{accepted-keeps, from-stuck, from-mended, reaches-legal, reaches-gives, reaches-counts}
 use Rattle.call_laws.proofs.Answers.{refused-front}
 
 module _ (p : Params) (l matrix before : List ℕ) (work : ℕ) (reaching : reachesChecks p l matrix work ≡ true) where
@@ -39,8 +39,12 @@ module _ (p : Params) (l matrix before : List ℕ) (work : ℕ) (reaching : reac
   abbrev word : List ℕ
   word = receivedWord p l matrix
 
+  -- the counts before and after its mending
+  abbrev got : Counts
+  got = receivedCounts p l matrix
+
   abbrev counts : Counts
-  counts = countsOf (sizesFor p l) word
+  counts = countsOf p l matrix
 
   -- the answer, and the one that the read gives where the rule's last word is accepted
   abbrev answered : ReadAnswer
@@ -50,35 +54,35 @@ module _ (p : Params) (l matrix before : List ℕ) (work : ℕ) (reaching : reac
   onward = answerFromAccepted (sizesFor p l) (lastWord checks word) counts (length before)
 
   at-stuck : stuck checks word ≡ true → answered ≡ counted counts 9 0
-  at-stuck t = reaches-gives p l matrix work (length before) reaching ∙ from-stuck (sizesFor p l) word (length before) t
+  at-stuck t = reaches-gives p l matrix work (length before) reaching ∙ from-stuck (sizesFor p l) word got (length before) t
 
   at-mended : stuck checks word ≡ false → answered ≡ onward
-  at-mended t = reaches-gives p l matrix work (length before) reaching ∙ from-mended (sizesFor p l) word (length before) t
+  at-mended t = reaches-gives p l matrix work (length before) reaching ∙ from-mended (sizesFor p l) word got (length before) t
 
-  -- an answer from the accepted word has these counts, and its number is not 9
-  onward-counts : (countsIn onward ≡ counts) × (onward .number ≡ 9 → ⊥)
+  -- the number of an answer from the accepted word is not 9
+  onward-other : onward .number ≡ 9 → ⊥
   unfolding allHold streamRows acceptedRows
-  onward-counts =
-      let Q : ReadAnswer → Type 0 = λ a. (countsIn a ≡ counts) × (a .number ≡ 9 → ⊥) in
+  onward-other =
+      let Q : ReadAnswer → Type 0 = λ a. a .number ≡ 9 → ⊥ in
       let rows : List Row = acceptedRows (sizesFor p l) (lastWord checks word) (length before) in
       let other : Row → Bool = λ r. not (eqb (r .number) 9) in
       accepted-keeps Q (sizesFor p l) (lastWord checks word) counts (length before)
       (each-map (λ r. other r ≡ true) (λ r. r .test ≡ true → Q (counted counts (r .number) (r .place)))
-      (λ r f t. (refl, eqb-false (r .number) 9 (not-true (eqb (r .number) 9) f))) rows (each-computed other rows refl))
-      (λ fits. (refl, λ z. omega arith))
+      (λ r f t. eqb-false (r .number) 9 (not-true (eqb (r .number) 9) f)) rows (each-computed other rows refl))
+      (λ fits z. omega arith)
 
   is-nine : stuck checks word ≡ true → answered .number ≡ 9
   is-nine t = ap (λ (a : ReadAnswer). a .number) (at-stuck t)
 
   not-nine : stuck checks word ≡ false → answered .number ≡ 9 → ⊥
-  not-nine t nine = onward-counts .1 (sym (ap (λ (a : ReadAnswer). a .number) (at-mended t)) ∙ nine)
+  not-nine t nine = onward-other (sym (ap (λ (a : ReadAnswer). a .number) (at-mended t)) ∙ nine)
 
   is-mended : (answered .number ≡ 9 → ⊥) → stuck checks word ≡ false
   is-mended other = by (stuck checks word) (λ t. absurd (other (is-nine t))) (λ t. t)
 
-  -- the counts reported are the received word's
+  -- the counts reported are the matrix's
   reported : countsIn answered ≡ counts
-  reported = by (stuck checks word) (λ t. ap countsIn (at-stuck t)) (λ t. ap countsIn (at-mended t) ∙ onward-counts .0)
+  reported = reaches-counts p l matrix work (length before) reaching
 
   when-unmet : 0 < unmetCount checks (lastWord checks word)
       → (answered ≡ counted (countsIn answered) 9 0)
@@ -108,7 +112,7 @@ mends p l matrix before work reaching =
     let w : List ℕ = receivedWord p l matrix in
     let once : AllOnce cs = symbol-once (sizesFor p l) in
     let bits : AllBits w = received-bits p l matrix in
-    let same : countsIn (readAnswer p l matrix work (length before)) ≡ countsOf (sizesFor p l) w =
+    let same : countsIn (readAnswer p l matrix work (length before)) ≡ countsOf p l matrix =
     reported p l matrix before work reaching in
     let repairs : readAnswer p l matrix work (length before) .repairs ≡ length (repairsOf cs w) = ap (λ (c : Counts). c .repairs) same in
     let unmet : readAnswer p l matrix work (length before) .unmet ≡ unmetCount cs w = ap (λ (c : Counts). c .unmet) same in

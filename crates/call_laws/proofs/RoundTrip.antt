@@ -8,7 +8,6 @@ use mathlib.Core.List.{List, [], _∷_, _++_}
 use native.Mathlib.Omega.{arith}
 use lib.Dec.{eqb}
 use lib.ListN.{length, drop, replicate}
-use lib.Seq.{drop-at}
 use borrow.Author.Tests.{eqb-true, le-ltb, lt-ltb}
 use Rattle.symbology.specs.declared.Params.{Params}
 use Rattle.symbology.specs.declared.Sizes.{Sizes}
@@ -17,20 +16,20 @@ use Rattle.symbology.specs.Rule.{stuck, lastWord, unmetCount}
 use Rattle.symbology.specs.Codeword.{messageColumns}
 use Rattle.symbology.specs.Code.{matrixFor, checksFor, messageBitsFor}
 use Rattle.symbology.specs.Stream.{ReadsAs}
-use Rattle.symbology.specs.Symbol.{writtenMatrix, receivedBits, wrongStuffing}
+use Rattle.symbology.specs.Symbol.{writtenMatrix}
 use Rattle.laws.proofs.Ranges.{by}
 use Rattle.laws.proofs.Net.{length-net}
 use Rattle.laws.proofs.Steps.{untouched, untouched-word, met-not-stuck}
 use Rattle.laws.proofs.Sizes.{LegalSymbol}
-use Rattle.laws.proofs.Symbols.{symbol-meets, symbol-message, same-self}
-use Rattle.laws.proofs.Written.{netOf, wordOf, endOf, written-length, written-below}
-use Rattle.laws.proofs.Written.{written-bits, written-wide, written-received, written-word}
+use Rattle.laws.proofs.Symbols.{symbol-meets, symbol-message}
+use Rattle.laws.proofs.Written.{netOf, wordOf, written-length, written-below, written-bits, written-stuffing, written-word}
 use Rattle.calls.specs.declared.Answer.{Answer}
 use Rattle.calls.specs.declared.Counts.{Counts}
 use Rattle.calls.specs.Answers.{answer, noCounts, done}
 use Rattle.calls.specs.Tests.{firstOf, passes, noRoom, frontRows, writeRows, earlyRows, isLegal, reachesChecks}
 use Rattle.calls.specs.Write.{writeAnswer, matrixAfterWrite}
-use Rattle.calls.specs.Read.{messageInAccepted, messageIn, frontAfter, answerFromAccepted, countsOf, answerFromReceived, readAnswer}
+use Rattle.calls.specs.Read.{messageInAccepted, messageIn, frontAfter, answerFromAccepted, mendedCounts, answerFromReceived}
+use Rattle.calls.specs.Read.{receivedCounts, readAnswer}
 use Rattle.call_laws.proofs.Tests.{Legal, legal, legal-is, pass-append, pass-front, first-append, first-hit}
 use Rattle.call_laws.proofs.Tests.{first-miss, first-none, first-passed, zero-passes, write-numbered}
 use Rattle.call_laws.proofs.Stages.{accepted-message, accepted-done, from-mended, reaches-gives}
@@ -53,16 +52,12 @@ module _ (p : Params) (l : List ℕ) {stream message : List ℕ} (k : LegalSymbo
 
   -- it passes every test before the checks
   pub written-reaches : (work : ℕ) → sizes .work ≤ work → reachesChecks p l matrix work ≡ true
-  unfolding reachesChecks earlyRows isLegal passes wrongStuffing
+  unfolding reachesChecks earlyRows isLegal passes
   written-reaches work enough =
-      let end : List ℕ = endOf p l stream in
       let front : passes (frontRows p l (length matrix) work) ≡ true =
       legal-is p l (length matrix) work (record { symbol = k; whole = written-length p l stream; enough = enough }) in
-      let behind : drop (sizes .gross) (receivedBits p l matrix) ≡ end =
-      ap (drop (sizes .gross)) (written-received p l stream k (reads .are-bits))
-      ∙ drop-at word end (sizes .gross) (written-wide p l stream k (reads .are-bits)) in
       pass-append (frontRows p l (length matrix) work) _
-      ∙ rw (front, written-below p l stream k, le-ltb (length matrix) (length matrix) (omega arith), behind, same-self end) refl
+      ∙ rw (front, written-below p l stream k, le-ltb (length matrix) (length matrix) (omega arith)) refl
 
   -- no check is unmet in its word, which is not turned at all
   met : unmetCount checks word ≡ 0
@@ -71,8 +66,9 @@ module _ (p : Params) (l : List ℕ) {stream message : List ℕ} (k : LegalSymbo
   unturned : lastWord checks word ≡ word
   unturned = untouched-word checks word met
 
-  no-counts : countsOf sizes word ≡ noCounts
-  no-counts = rw (untouched checks word met, met) refl
+  -- and no stuffing bit is wrong
+  no-counts : mendedCounts sizes word (receivedCounts p l matrix) ≡ noCounts
+  no-counts = rw (untouched checks word met, met, written-stuffing p l stream k (reads .are-bits)) refl
 
   module _ (fits : length stream < sizes .net) where
     full : length (netOf p l stream) ≡ sizes .net
@@ -85,17 +81,18 @@ module _ (p : Params) (l : List ℕ) {stream message : List ℕ} (k : LegalSymbo
     holds = symbol-message p l k (netOf p l stream) (written-bits p l stream k (reads .are-bits)) full
 
     -- A written matrix, read with the same parameters and list, a work buffer that test 5 passes and a message buffer that is long
-    -- enough, gives 0 and the message's length, with no repair and no unmet check.
+    -- enough, gives 0 and the message's length, with no repair, no unmet check and no wrong stuffing bit.
     pub write-read : (work room : ℕ)
         → sizes .work ≤ work
         → length message ≤ room
         → readAnswer p l matrix work room ≡ done noCounts (length message)
     write-read work room enough long =
+        let got : Counts = receivedCounts p l matrix in
         let free : stuck checks word ≡ false = met-not-stuck checks word (ap (unmetCount checks) unturned ∙ met) in
         reaches-gives p l matrix work room (written-reaches work enough)
-        ∙ ap (λ (w : List ℕ). answerFromReceived sizes w room) (written-word p l stream k (reads .are-bits))
-        ∙ from-mended sizes word room free
-        ∙ ap (λ (w : List ℕ). answerFromAccepted sizes w (countsOf sizes word) room) unturned
+        ∙ ap (λ (w : List ℕ). answerFromReceived sizes w got room) (written-word p l stream k (reads .are-bits))
+        ∙ from-mended sizes word got room free
+        ∙ ap (λ (w : List ℕ). answerFromAccepted sizes w (mendedCounts sizes word got) room) unturned
         ∙ ap (λ (c : Counts). answerFromAccepted sizes word c room) no-counts
         ∙ accepted-done sizes word reads spare full holds noCounts room long
 
@@ -117,7 +114,7 @@ pub record WritesAndReads (p : Params) (l stream matrix : List ℕ) (work : ℕ)
   -- otherwise the matrix is the one that the papers define
   pub written : suc (length stream) ≤ sizesFor p l .net
       → (writeAnswer p l stream (length matrix) work ≡ answer 0 0) × (matrixAfterWrite p l stream work matrix ≡ writtenMatrix p l stream)
-  -- and a read of it gives back the message that the stream reads as, with no repair and no unmet check
+  -- and a read of it gives back the message that the stream reads as, with no repair, no unmet check and no wrong stuffing bit
   pub read-back : (message buffer : List ℕ) (readWork : ℕ)
       → ReadsAs stream message
       → suc (length stream) ≤ sizesFor p l .net

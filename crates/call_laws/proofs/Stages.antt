@@ -2,7 +2,7 @@
 -- Assumes nothing.
 use Prim.Native.Nat.{ℕ, _≤_}
 use mathlib.Core.Path.{_≡_, refl, sym, ap, _∙_, subst⁻¹}
-use mathlib.Core.Bool.{Bool, true, false, not}
+use mathlib.Core.Bool.{Bool, true, false, cond, not}
 use mathlib.Core.List.{List, [], _∷_, _++_}
 use native.Mathlib.Omega.{arith}
 use lib.ListN.{length, take, drop, replicate}
@@ -16,16 +16,18 @@ use Rattle.symbology.specs.Rule.{lastWord, stuck}
 use Rattle.symbology.specs.Code.{checksFor, messageBitsFor}
 use Rattle.symbology.specs.Stream.{Decoded, decode, ReadsAs}
 use Rattle.symbology.specs.Net.{withEndMark, streamIn}
-use Rattle.symbology.specs.Symbol.{receivedWord}
+use Rattle.symbology.specs.Symbol.{receivedWord, wrongStuffing}
 use Rattle.symbology.proofs.Ranges.{clash}
+use Rattle.laws.proofs.Ranges.{by}
 use Rattle.laws.proofs.Net.{net-back, net-some, any-zeros}
 use Rattle.calls.specs.declared.Counts.{Counts}
 use Rattle.calls.specs.declared.StreamAnswer.{StreamAnswer}
 use Rattle.calls.specs.declared.ReadAnswer.{ReadAnswer}
-use Rattle.calls.specs.Answers.{counted, refused, done, fromStream, streamRefused, streamDone}
+use Rattle.calls.specs.Answers.{counted, refused, done, fromStream, countsIn, streamRefused, streamDone}
 use Rattle.calls.specs.Tests.{Row, firstOf, passes, spareOne, stuckWord, sizeRows, frontRows}
 use Rattle.calls.specs.Tests.{earlyRows, streamRows, acceptedRows, isLegal, reachesChecks}
-use Rattle.calls.specs.Read.{messageInNet, messageInAccepted, streamAnswer, answerFromAccepted, countsOf, answerFromReceived, readAnswer}
+use Rattle.calls.specs.Read.{messageInNet, messageInAccepted, streamAnswer, answerFromAccepted, mendedCounts, answerFromReceived}
+use Rattle.calls.specs.Read.{receivedCounts, readAnswer, countsOf}
 use Rattle.call_laws.proofs.Tests.{Each, each-all, each-computed, each-map, each-listed, numbersOf}
 use Rattle.call_laws.proofs.Tests.{pass-fails, pass-front, pass-behind, first-append, first-hit, first-miss}
 use Rattle.call_laws.proofs.Tests.{first-none, first-passed, first-keeps, first-map, Legal, legal}
@@ -137,42 +139,48 @@ accepted-keeps Q s w c room each last =
 
 -- ---- from the received word
 
-module _ (s : Sizes) (w : List ℕ) (room : ℕ) where
-  -- the word that the rule ends with
+module _ (s : Sizes) (w : List ℕ) (got : Counts) (room : ℕ) where
+  -- the word that the rule ends with, and the counts then
   abbrev last : List ℕ
   last = lastWord (checksFor s) w
 
+  abbrev counts : Counts
+  counts = mendedCounts s w got
+
   -- the rule ends with a check unmet
-  pub from-stuck : stuck (checksFor s) w ≡ true → answerFromReceived s w room ≡ counted (countsOf s w) 9 0
+  pub from-stuck : stuck (checksFor s) w ≡ true → answerFromReceived s w got room ≡ counted counts 9 0
   unfolding answerFromReceived
-  from-stuck e = first-hit (counted (countsOf s w)) (stuckWord s w) [] (answerFromAccepted s last (countsOf s w) room) e
+  from-stuck e = first-hit (counted counts) (stuckWord s w) [] (answerFromAccepted s last counts room) e
 
   -- it ends with none
-  pub from-mended : stuck (checksFor s) w ≡ false → answerFromReceived s w room ≡ answerFromAccepted s last (countsOf s w) room
+  pub from-mended : stuck (checksFor s) w ≡ false → answerFromReceived s w got room ≡ answerFromAccepted s last counts room
   unfolding answerFromReceived
   from-mended e =
-      let onward : ReadAnswer = answerFromAccepted s last (countsOf s w) room in
-      first-miss (counted (countsOf s w)) (stuckWord s w) [] onward e ∙ first-none (counted (countsOf s w)) onward
+      let onward : ReadAnswer = answerFromAccepted s last counts room in
+      first-miss (counted counts) (stuckWord s w) [] onward e ∙ first-none (counted counts) onward
 
   -- What each row's answer has, and 0 where the message fits, the answer has.
   pub received-keeps : (Q : ReadAnswer → Type 0)
-      → Each (λ r. r .test ≡ true → Q (counted (countsOf s w) (r .number) (r .place))) (stuckWord s w ∷ acceptedRows s last room)
-      → (length (messageInAccepted s last) ≤ room → Q (done (countsOf s w) (length (messageInAccepted s last))))
-      → Q (answerFromReceived s w room)
+      → Each (λ r. r .test ≡ true → Q (counted counts (r .number) (r .place))) (stuckWord s w ∷ acceptedRows s last room)
+      → (length (messageInAccepted s last) ≤ room → Q (done counts (length (messageInAccepted s last))))
+      → Q (answerFromReceived s w got room)
   unfolding answerFromReceived Each
   received-keeps Q each fits =
-      first-keeps (counted (countsOf s w)) Q (stuckWord s w ∷ []) (answerFromAccepted s last (countsOf s w) room) (each .0, tt)
-      (λ e. accepted-keeps Q s last (countsOf s w) room (each .1) fits)
+      first-keeps (counted counts) Q (stuckWord s w ∷ []) (answerFromAccepted s last counts room) (each .0, tt)
+      (λ e. accepted-keeps Q s last counts room (each .1) fits)
 
 -- ---- from the matrix
 
 module _ (p : Params) (l matrix : List ℕ) (work : ℕ) where
-  -- the sizes and the received word
+  -- the sizes, and the received word with its counts
   abbrev sizes : Sizes
   sizes = sizesFor p l
 
   abbrev word : List ℕ
   word = receivedWord p l matrix
+
+  abbrev got : Counts
+  got = receivedCounts p l matrix
 
   -- A read that reaches the checks is legal.
   pub reaches-legal : reachesChecks p l matrix work ≡ true → Legal p l (length matrix) work
@@ -182,50 +190,69 @@ module _ (p : Params) (l matrix : List ℕ) (work : ℕ) where
   -- Its answer is the one from its received word.
   pub reaches-gives : (room : ℕ)
       → reachesChecks p l matrix work ≡ true
-      → readAnswer p l matrix work room ≡ answerFromReceived sizes word room
+      → readAnswer p l matrix work room ≡ answerFromReceived sizes word got room
   unfolding reachesChecks readAnswer
-  reaches-gives room e = first-passed refused (earlyRows p l matrix work) (answerFromReceived sizes word room) e
+  reaches-gives room e = first-passed refused (earlyRows p l matrix work) (answerFromReceived sizes word got room) e
 
   module _ (room : ℕ) where
-    -- What each row's answer has, with the counts 0 before the checks and the received word's behind, and 0 where the message fits, every
-    -- answer of a read has. The rows behind the checks are asked of a read that reaches them.
+    -- What each row's answer has, with the counts 0 before the checks and the matrix's behind, and 0 where the message fits, every answer
+    -- of a read has. The rows behind the checks are asked of a read that reaches them.
     pub read-keeps : (Q : ReadAnswer → Type 0)
         → Each (λ r. r .test ≡ true → Q (refused (r .number) (r .place))) (earlyRows p l matrix work)
         → (reachesChecks p l matrix work ≡ true
-        → Each (λ r. r .test ≡ true → Q (counted (countsOf sizes word) (r .number) (r .place)))
+        → Each (λ r. r .test ≡ true → Q (counted (countsOf p l matrix) (r .number) (r .place)))
         (stuckWord sizes word ∷ acceptedRows sizes (lastWord (checksFor sizes) word) room))
         → (reachesChecks p l matrix work ≡ true
         → let m = messageInAccepted sizes (lastWord (checksFor sizes) word) in
         length m ≤ room
-        → Q (done (countsOf sizes word) (length m)))
+        → Q (done (countsOf p l matrix) (length m)))
         → Q (readAnswer p l matrix work room)
     unfolding reachesChecks readAnswer
     read-keeps Q early late fits =
-        first-keeps refused Q (earlyRows p l matrix work) (answerFromReceived sizes word room) early
-        (λ e. received-keeps sizes word room Q (late e) (fits e))
+        first-keeps refused Q (earlyRows p l matrix work) (answerFromReceived sizes word got room) early
+        (λ e. received-keeps sizes word got room Q (late e) (fits e))
 
     -- ---- reaching the checks
 
     -- A read whose answer is none of the numbers before 9 has reached the checks.
-    pub reaches-when : has (readAnswer p l matrix work room .number) (1 ∷ 2 ∷ 3 ∷ 4 ∷ 5 ∷ 7 ∷ 8 ∷ []) ≡ false
+    pub reaches-when : has (readAnswer p l matrix work room .number) (1 ∷ 2 ∷ 3 ∷ 4 ∷ 5 ∷ 7 ∷ []) ≡ false
         → reachesChecks p l matrix work ≡ true
     unfolding reachesChecks readAnswer sizeRows frontRows earlyRows
     reaches-when =
         let rs : List Row = earlyRows p l matrix work in
         let Q : ReadAnswer → Type 0 = λ a. has (a .number) (numbersOf rs) ≡ false → passes rs ≡ true in
-        first-keeps refused Q rs (answerFromReceived sizes word room)
+        first-keeps refused Q rs (answerFromReceived sizes word got room)
         (each-map (λ r. has (r .number) (numbersOf rs) ≡ true) (λ r. r .test ≡ true → Q (refused (r .number) (r .place)))
         (λ r listed t other. clash listed other) rs (each-listed rs)) (λ e other. e)
 
     -- The answer of a read that reaches the checks is none of them.
     pub reaches-only : reachesChecks p l matrix work ≡ true
-        → has (readAnswer p l matrix work room .number) (1 ∷ 2 ∷ 3 ∷ 4 ∷ 5 ∷ 7 ∷ 8 ∷ []) ≡ false
+        → has (readAnswer p l matrix work room .number) (1 ∷ 2 ∷ 3 ∷ 4 ∷ 5 ∷ 7 ∷ []) ≡ false
     unfolding allHold streamRows acceptedRows has
     reaches-only e =
-        let Q : ReadAnswer → Type 0 = λ a. has (a .number) (1 ∷ 2 ∷ 3 ∷ 4 ∷ 5 ∷ 7 ∷ 8 ∷ []) ≡ false in
+        let Q : ReadAnswer → Type 0 = λ a. has (a .number) (1 ∷ 2 ∷ 3 ∷ 4 ∷ 5 ∷ 7 ∷ []) ≡ false in
         let late : List Row = stuckWord sizes word ∷ acceptedRows sizes (lastWord (checksFor sizes) word) room in
-        let other : Row → Bool = λ r. not (has (r .number) (1 ∷ 2 ∷ 3 ∷ 4 ∷ 5 ∷ 7 ∷ 8 ∷ [])) in
+        let other : Row → Bool = λ r. not (has (r .number) (1 ∷ 2 ∷ 3 ∷ 4 ∷ 5 ∷ 7 ∷ [])) in
         subst⁻¹ Q (reaches-gives room e)
-        (received-keeps sizes word room Q
-        (each-map (λ r. other r ≡ true) (λ r. r .test ≡ true → Q (counted (countsOf sizes word) (r .number) (r .place)))
-        (λ r f t. not-true (has (r .number) (1 ∷ 2 ∷ 3 ∷ 4 ∷ 5 ∷ 7 ∷ 8 ∷ [])) f) late (each-computed other late refl)) (λ fits. refl))
+        (received-keeps sizes word got room Q
+        (each-map (λ r. other r ≡ true) (λ r. r .test ≡ true → Q (counted (countsOf p l matrix) (r .number) (r .place)))
+        (λ r f t. not-true (has (r .number) (1 ∷ 2 ∷ 3 ∷ 4 ∷ 5 ∷ 7 ∷ [])) f) late (each-computed other late refl)) (λ fits. refl))
+
+    -- ---- the counts
+
+    -- A read that reaches the checks has the counts of its matrix, whatever it answers.
+    pub reaches-counts : reachesChecks p l matrix work ≡ true → countsIn (readAnswer p l matrix work room) ≡ countsOf p l matrix
+    reaches-counts e =
+        let Q : ReadAnswer → Type 0 = λ a. countsIn a ≡ countsOf p l matrix in
+        subst⁻¹ Q (reaches-gives room e)
+        (received-keeps sizes word got room Q
+        (each-all (λ r. r .test ≡ true → Q (counted (countsOf p l matrix) (r .number) (r .place))) (λ r t. refl) _) (λ fits. refl))
+
+    -- Document 02, W-202: the wrong stuffing bits are counted in the answer of every read that passes 7, and 0 stands in others.
+    pub read-stuffing : readAnswer p l matrix work room .stuffing ≡ cond (reachesChecks p l matrix work) (wrongStuffing p l matrix) 0
+    read-stuffing =
+        by (reachesChecks p l matrix work) (λ e. rw e (ap (λ (c : Counts). c .stuffing) (reaches-counts e)))
+        (λ e.
+        let Q : ReadAnswer → Type 0 = λ a. a .stuffing ≡ 0 in
+        let early = each-all (λ r. r .test ≡ true → Q (refused (r .number) (r .place))) (λ r t. refl) (earlyRows p l matrix work) in
+        rw e (read-keeps Q early (λ t. clash t e) (λ t. clash t e)))

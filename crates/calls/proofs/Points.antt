@@ -1,7 +1,7 @@
 -- Document 01, "Points on each side": the points P1 to P12, one statement over one list.
 -- Assumes nothing.
 use Prim.Native.Nat.{ℕ, _-_}
-use mathlib.Core.Bool.{Bool, not}
+use mathlib.Core.Bool.{Bool, true, false, not, _&&_}
 use mathlib.Core.List.{List, [], _∷_, map, _++_}
 use lib.ListN.{length, replicate}
 use lib.Dec.{T, eqb}
@@ -19,11 +19,17 @@ use Rattle.symbology.specs.Rule.{bitSum, unmet, unmetCount, unmetAt, metAt, isS
 use Rattle.symbology.specs.Rule.{turned, ends, repairs, afterTurns, repairsOf, lastWord, stuck}
 use Rattle.symbology.specs.Stream.{readCode, readCodes, decode, byteRuns, byteStream, byteBits, runCount, byteRun, streamOf}
 use Rattle.symbology.specs.Net.{upToLastOne, streamIn, stuffing, exceeds, withEndMark}
-use Rattle.symbology.specs.Symbol.{sameBits}
 use Rattle.symbology.proofs.Parameters.{paramsOf}
 use Rattle.calls.specs.Tests.{firstOf, sizeRows, frontRows, writeRows, earlyRows, streamRows}
 use Rattle.calls.specs.Write.{writeAnswer}
 use Rattle.calls.specs.Read.{streamAnswer, readAnswer}
+
+-- two lists of numbers are equal
+unfoldable pub same : List ℕ → List ℕ → Bool
+same [] [] = true
+same [] (y ∷ ys) = false
+same (x ∷ xs) [] = false
+same (x ∷ xs) (y ∷ ys) = eqb x y && same xs ys
 
 -- a primary symbol of these side-versions
 abbrev rectangle : ℕ → ℕ → ℕ → ℕ → ℕ → Params
@@ -67,14 +73,14 @@ points =
     -- P1
     eqb (sideSize 1) 21
     ∷ eqb (sideSize 32) 145
-    ∷ sameBits (answered 0 0) (1 ∷ 1 ∷ [])
-    ∷ sameBits (answered 33 33) (1 ∷ 1 ∷ [])
-    ∷ sameBits (answered 0 1) (1 ∷ 1 ∷ [])
-    ∷ sameBits (answered 1 0) (1 ∷ 1 ∷ [])
-    ∷ sameBits (answered 33 1) (1 ∷ 1 ∷ [])
-    ∷ sameBits (answered 1 33) (1 ∷ 1 ∷ [])
-    ∷ sameBits (answered 1 1) (4 ∷ 4 ∷ [])
-    ∷ sameBits (answered 32 32) (3 ∷ 3 ∷ [])
+    ∷ same (answered 0 0) (1 ∷ 1 ∷ [])
+    ∷ same (answered 33 33) (1 ∷ 1 ∷ [])
+    ∷ same (answered 0 1) (1 ∷ 1 ∷ [])
+    ∷ same (answered 1 0) (1 ∷ 1 ∷ [])
+    ∷ same (answered 33 1) (1 ∷ 1 ∷ [])
+    ∷ same (answered 1 33) (1 ∷ 1 ∷ [])
+    ∷ same (answered 1 1) (4 ∷ 4 ∷ [])
+    ∷ same (answered 32 32) (3 ∷ 3 ∷ [])
     -- P2
     ∷ eqb (innerPatterns 10 10) 12
     ∷ eqb (patternModules 0 10 10) 152
@@ -89,7 +95,7 @@ points =
     ∷ eqb (sizesOf (symbol 1 8 4 9) 24 .gross) 1044
     ∷ eqb (sizesOf (symbol 1 8 4 9) 24 .checks) 464
     ∷ eqb (sizesOf (symbol 1 8 4 9) 24 .net) 580
-    ∷ sameBits (stuffing (sizesOf (symbol 1 8 4 9) 24 .capacity - sizesOf (symbol 1 8 4 9) 24 .gross)) (0 ∷ 1 ∷ 0 ∷ [])
+    ∷ same (stuffing (sizesOf (symbol 1 8 4 9) 24 .capacity - sizesOf (symbol 1 8 4 9) 24 .gross)) (0 ∷ 1 ∷ 0 ∷ [])
     -- P6
     ∷ eqb (sizesOf (symbol 1 8 3 9) 24 .checks) 348
     ∷ eqb (sizesOf (symbol 1 8 3 9) 24 .net) 696
@@ -112,17 +118,17 @@ points =
     -- P10
     ∷ eqb (unmetCount checks10 word10) 2
     ∷ eqb (length (repairsOf checks10 word10)) 1
-    ∷ sameBits (lastWord checks10 word10) (0 ∷ 0 ∷ 0 ∷ [])
+    ∷ same (lastWord checks10 word10) (0 ∷ 0 ∷ 0 ∷ [])
     ∷ not (stuck checks10 word10)
     -- P11
     ∷ eqb (unmetCount checks11 word11) 2
     ∷ eqb (length (repairsOf checks11 word11)) 0
     ∷ stuck checks11 word11
     -- P12
-    ∷ sameBits (withEndMark 5 (1 ∷ 0 ∷ [])) (1 ∷ 0 ∷ 1 ∷ 0 ∷ 0 ∷ [])
-    ∷ sameBits (withEndMark 5 []) (1 ∷ 0 ∷ 0 ∷ 0 ∷ 0 ∷ [])
-    ∷ sameBits (streamIn (1 ∷ 0 ∷ 1 ∷ 0 ∷ 0 ∷ [])) (1 ∷ 0 ∷ [])
-    ∷ sameBits (streamIn (1 ∷ 0 ∷ 0 ∷ 0 ∷ 0 ∷ [])) []
+    ∷ same (withEndMark 5 (1 ∷ 0 ∷ [])) (1 ∷ 0 ∷ 1 ∷ 0 ∷ 0 ∷ [])
+    ∷ same (withEndMark 5 []) (1 ∷ 0 ∷ 0 ∷ 0 ∷ 0 ∷ [])
+    ∷ same (streamIn (1 ∷ 0 ∷ 1 ∷ 0 ∷ 0 ∷ [])) (1 ∷ 0 ∷ [])
+    ∷ same (streamIn (1 ∷ 0 ∷ 0 ∷ 0 ∷ 0 ∷ [])) []
     ∷ eqb (streamAnswer (1 ∷ 0 ∷ 0 ∷ 0 ∷ 0 ∷ []) 0 .number) 0
     ∷ eqb (streamAnswer (0 ∷ 0 ∷ 0 ∷ 0 ∷ 0 ∷ []) 0 .number) 11
     ∷ []
@@ -131,7 +137,7 @@ pub all-points : T (allHold points)
 unfolding allHold lowest tabulate has value bits anyOne rangeTests inRange coreTable coresOf innerPatterns listVerdict entryVerdict
     listNumber listPlace bitsPerModule patternModules dataModules asBits capacity sizesOf scaled rawPlace placeOf mul div ofInt toUnsigned
     bitSum unmet unmetCount unmetAt metAt isSuspect suspect turned ends repairs afterTurns repairsOf lastWord stuck readCode readCodes
-    decode byteRuns byteStream upToLastOne streamIn stuffing streamOf sameBits firstOf sizeRows frontRows writeRows earlyRows streamRows
+    decode byteRuns byteStream upToLastOne streamIn stuffing streamOf same firstOf sizeRows frontRows writeRows earlyRows streamRows
     writeAnswer streamAnswer readAnswer joinFrom nearCore finder patternOf inSquares colourIn meeting patternAt covered patternColour
     entryAt firstEntry badEntry badAt withEndMark byteBits runCount byteRun
 all-points = tt

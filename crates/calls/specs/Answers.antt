@@ -60,7 +60,7 @@ streamDone n = record { number = 0; length = n }
 
 -- the counts of a read that is refused before the checks
 abbrev pub noCounts : Counts
-noCounts = record { repairs = 0; unmet = 0 }
+noCounts = record { repairs = 0; unmet = 0; stuffing = 0 }
 
 -- number, place and length, with the counts
 abbrev pub reading : Counts → ℕ → ℕ → ℕ → ReadAnswer
@@ -71,6 +71,7 @@ reading c number place n =
       length = n;
       repairs = c .repairs;
       unmet = c .unmet;
+      stuffing = c .stuffing;
     }
 
 -- a refusal behind the checks: its length is 0
@@ -91,4 +92,4 @@ fromStream c a = reading c (a .number) 0 (a .length)
 
 -- the counts that stand in an answer
 abbrev pub countsIn : ReadAnswer → Counts
-countsIn a = record { repairs = a .repairs; unmet = a .unmet }
+countsIn a = record { repairs = a .repairs; unmet = a .unmet; stuffing = a .stuffing }

@@ -50,8 +50,8 @@ pub record ReadsBack (p : Params) (l message matrix back : List ℕ) (a : ReadAn
   pub is-written : suc (length (streamOf message)) ≤ sizesFor p l .net
       → (a .number ≡ 6 → ⊥)
       × (written ≡ writtenMatrix p l (streamOf message))
-  -- and the message comes back, with no repair and no unmet check, where its buffer is long enough: the message, and the rest of the
-  -- buffer as it came (`frontAfter` on 0, spelled out)
+  -- and the message comes back, with no repair, no unmet check and no wrong stuffing bit, where its buffer is long enough: the
+  -- message, and the rest of the buffer as it came (`frontAfter` on 0, spelled out)
   pub comes-back : suc (length (streamOf message)) ≤ sizesFor p l .net
       → length message ≤ length back
       → (a ≡ done noCounts (length message)) × (after ≡ message ++ drop (length message) back)

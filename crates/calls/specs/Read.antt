@@ -1,6 +1,6 @@
 -- The whole read: its answer, and the message buffer at exit (the work buffer is that of a write). It goes in stages, each a function of
--- what the stage before hands on: the tests up to the checks, the received word, the accepted word, the net bits. `room` is the length
--- that a message may have.
+-- what the stage before hands on: the tests up to the checks, the received word, the accepted word, the net bits. The counts are handed
+-- on with it, as one value, and each stage sets its own. `room` is the length that a message may have.
 -- Assumes nothing.
 use Prim.Native.Nat.{ℕ}
 use mathlib.Core.Bool.{cond}
@@ -15,7 +15,7 @@ use Rattle.symbology.specs.Rule.{unmetCount, repairsOf, lastWord}
 use Rattle.symbology.specs.Code.{checksFor, messageBitsFor}
 use Rattle.symbology.specs.Stream.{decode}
 use Rattle.symbology.specs.Net.{streamIn}
-use Rattle.symbology.specs.Symbol.{receivedWord}
+use Rattle.symbology.specs.Symbol.{receivedWord, wrongStuffing}
 use Rattle.calls.specs.declared.Counts.{Counts}
 use Rattle.calls.specs.declared.StreamAnswer.{StreamAnswer}
 use Rattle.calls.specs.declared.ReadAnswer.{ReadAnswer}
@@ -55,21 +55,31 @@ answerFromAccepted s w c room =
     let net = take (s .net) (messageBitsFor s w) in
     firstOf (counted c) (spareOne s w ∷ []) (fromStream c (streamAnswer net room))
 
--- the counts that a received word gives: the repairs, and the checks unmet in it
-abbrev pub countsOf : Sizes → List ℕ → Counts
-countsOf s w =
+-- the counts once a received word is mended: the repairs and the checks unmet in it are set, and the others stay
+abbrev pub mendedCounts : Sizes → List ℕ → Counts → Counts
+mendedCounts s w got =
     let cs = checksFor s in
-    record { repairs = length (repairsOf cs w); unmet = unmetCount cs w }
+    record { repairs = length (repairsOf cs w); unmet = unmetCount cs w; stuffing = got .stuffing }
 
 -- from the received word: stuck, or the read goes on from the word the rule ends with
-unfoldable pub answerFromReceived : Sizes → List ℕ → ℕ → ReadAnswer
-answerFromReceived s w room =
-    firstOf (counted (countsOf s w)) (stuckWord s w ∷ []) (answerFromAccepted s (lastWord (checksFor s) w) (countsOf s w) room)
+unfoldable pub answerFromReceived : Sizes → List ℕ → Counts → ℕ → ReadAnswer
+answerFromReceived s w got room =
+    let c = mendedCounts s w got in
+    firstOf (counted c) (stuckWord s w ∷ []) (answerFromAccepted s (lastWord (checksFor s) w) c room)
+
+-- the counts once a matrix is received: document 02, W-202, the wrong stuffing bits
+abbrev pub receivedCounts : Params → List ℕ → List ℕ → Counts
+receivedCounts p l matrix = record { repairs = 0; unmet = 0; stuffing = wrongStuffing p l matrix }
 
 -- the answer of a read with a work buffer of this length
 unfoldable pub readAnswer : Params → List ℕ → List ℕ → ℕ → ℕ → ReadAnswer
 readAnswer p l matrix work room =
-    firstOf refused (earlyRows p l matrix work) (answerFromReceived (sizesFor p l) (receivedWord p l matrix) room)
+    firstOf refused (earlyRows p l matrix work)
+    (answerFromReceived (sizesFor p l) (receivedWord p l matrix) (receivedCounts p l matrix) room)
+
+-- the counts of a read that reaches the checks
+abbrev pub countsOf : Params → List ℕ → List ℕ → Counts
+countsOf p l matrix = mendedCounts (sizesFor p l) (receivedWord p l matrix) (receivedCounts p l matrix)
 
 -- All rows of a read. Its number and place are those of this table (the law `read-table`).
 unfoldable pub readRows : Params → List ℕ → List ℕ → ℕ → ℕ → List Row

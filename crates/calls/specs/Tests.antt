@@ -1,5 +1,5 @@
--- Document 01, "Numbers returned": a table of tests is a list of rows, each with its number and place, and the answer is that of the
--- first row whose test holds. Each row is written here, once; the tables of the calls are made of them.
+-- Document 01, "Numbers returned", without 8 (document 02, W-202): a table of tests is a list of rows, each with its number and place,
+-- and the answer is that of the first row whose test holds. Each row is written here, once; the tables of the calls are made of them.
 -- Assumes nothing.
 use Prim.Native.Nat.{ℕ, _*_}
 use mathlib.Core.Bool.{Bool, true, cond, not, _&&_, _||_}
@@ -17,7 +17,6 @@ use Rattle.symbology.specs.Code.{checksFor, messageBitsFor}
 use Rattle.symbology.specs.Stream.{Decoded, decode}
 use Rattle.symbology.specs.Net.{exceeds, streamIn}
 use Rattle.symbology.specs.Placement.{firstBadModule}
-use Rattle.symbology.specs.Symbol.{receivedBits, wrongStuffing}
 
 -- ---- tables
 
@@ -77,10 +76,6 @@ badModule p matrix =
     let bad = firstBadModule (p .colours) matrix in
     row (ltb bad (length matrix)) 7 bad
 
--- a stuffing bit is wrong
-abbrev pub badStuffing : Params → List ℕ → List ℕ → Row
-badStuffing p l matrix = row (wrongStuffing (sizesFor p l) (receivedBits p l matrix)) 8 0
-
 -- stuck
 abbrev pub stuckWord : Sizes → List ℕ → Row
 stuckWord s w = row (stuck (checksFor s) w) 9 0
@@ -121,7 +116,7 @@ writeRows p l stream modules work = frontRows p l modules work ++ (noRoom p l st
 
 -- a read up to the checks
 unfoldable pub earlyRows : Params → List ℕ → List ℕ → ℕ → List Row
-earlyRows p l matrix work = frontRows p l (length matrix) work ++ (badModule p matrix ∷ badStuffing p l matrix ∷ [])
+earlyRows p l matrix work = frontRows p l (length matrix) work ++ (badModule p matrix ∷ [])
 
 -- net bits, with room for so many bytes
 unfoldable pub streamRows : List ℕ → ℕ → List Row
@@ -137,6 +132,6 @@ acceptedRows s w room = spareOne s w ∷ streamRows (take (s .net) (messageBitsF
 unfoldable pub isLegal : Params → List ℕ → ℕ → ℕ → Bool
 isLegal p l modules work = passes (frontRows p l modules work)
 
--- a read reaches the checks (document 01's term): none of its tests before 9 applies
+-- a read reaches the checks (document 01's term): none of its tests before 9, which are 1 to 5 and 7, applies
 unfoldable pub reachesChecks : Params → List ℕ → List ℕ → ℕ → Bool
 reachesChecks p l matrix work = passes (earlyRows p l matrix work)

@@ -32,11 +32,12 @@ pub struct StreamAnswer {
     pub length: usize,
 }
 
-// The counts that a read hands from stage to stage: the repairs, and the number of checks unmet in the
-// received word.
+// The counts that a read hands from stage to stage: the repairs, the number of checks unmet in the
+// received word, and the number of wrong stuffing bits.
 pub struct Counts {
     pub repairs: usize,
     pub unmet: usize,
+    pub stuffing: usize,
 }
 
 // The answer of a read: document 01's number and place, the message's length, and the counts.
@@ -46,6 +47,7 @@ pub struct ReadAnswer {
     pub length: usize,
     pub repairs: usize,
     pub unmet: usize,
+    pub stuffing: usize,
 }
 
 // ---- the answers
@@ -111,6 +113,7 @@ pub fn refused(number: u32, place: usize) -> ReadAnswer
         length: 0,
         repairs: 0,
         unmet: 0,
+        stuffing: 0,
     }
 }
 
@@ -124,6 +127,7 @@ pub fn from_stream(c: Counts, a: StreamAnswer) -> ReadAnswer
         length: a.length,
         repairs: c.repairs,
         unmet: c.unmet,
+        stuffing: c.stuffing,
     }
 }
 

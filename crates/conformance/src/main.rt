@@ -13,7 +13,7 @@
 // with the byte 165 before. Each case prints one line:
 //
 //     write NUMBER PLACE WORK MATRIX
-//     read NUMBER PLACE LENGTH REPAIRS UNMET WORK REST BYTES
+//     read NUMBER PLACE LENGTH REPAIRS UNMET STUFFING WORK REST BYTES
 //
 // WORK is `zero` where all W bytes are 0, or `kept` where all are 165, or `changed`. MATRIX is the
 // modules, a digit each, or after a refusal `kept` where all M bytes are 165, or `changed`. REST says the
@@ -319,6 +319,7 @@ fn print_read(answer: ReadAnswer) {
     print_number(answer.length);
     print_number(answer.repairs);
     print_number(answer.unmet);
+    print_number(answer.stuffing);
 }
 
 fn run_read(p: Params, list: &[u16], matrix: &[u8], work: &mut [u8], message: &mut [u8])

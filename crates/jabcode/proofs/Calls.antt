@@ -13,9 +13,9 @@ use Rattle.laws.proofs.Ranges.{by}
 use Rattle.calls.specs.declared.Answer.{Answer}
 use Rattle.calls.specs.declared.ReadAnswer.{ReadAnswer}
 use Rattle.calls.specs.Answers.{answer, refused}
-use Rattle.calls.specs.Tests.{firstOf, passes, noRoom, badModule, badStuffing, frontRows, writeRows, earlyRows, isLegal}
+use Rattle.calls.specs.Tests.{firstOf, passes, noRoom, badModule, frontRows, writeRows, earlyRows, isLegal}
 use Rattle.calls.specs.Write.{writeAnswer}
-use Rattle.calls.specs.Read.{messageIn, answerFromReceived, readAnswer}
+use Rattle.calls.specs.Read.{messageIn, answerFromReceived, receivedCounts, readAnswer}
 use Rattle.calls.specs.Contracts.{Writes, Reads}
 use Rattle.call_laws.proofs.Tests.{first-append, first-passed, first-refuses, front-numbered}
 use Rattle.call_laws.proofs.Answers.{refused-write, refused-front, work-untouched}
@@ -79,9 +79,9 @@ unfolding readAnswer earlyRows
 read-refused p l matrix work message {a = a} {r} told e is =
     let given = answer-is p l (length matrix) (length work) told e in
     let some-number = some p l (length matrix) (length work) told e in
-    let onward : ReadAnswer = answerFromReceived (sizesFor p l) (receivedWord p l matrix) (length message) in
+    let onward : ReadAnswer = answerFromReceived (sizesFor p l) (receivedWord p l matrix) (receivedCounts p l matrix) (length message) in
     let same : readAnswer p l matrix (length work) (length message) ≡ refused (a .number) (a .place) =
-    first-append refused (frontRows p l (length matrix) (length work)) (badModule p matrix ∷ badStuffing p l matrix ∷ []) onward
+    first-append refused (frontRows p l (length matrix) (length work)) (badModule p matrix ∷ []) onward
     ∙ first-refuses refused (frontRows p l (length matrix) (length work)) _ a given some-number in
     let other : r .number ≡ 0 → ⊥ = λ z. some-number (sym (ap (λ (b : ReadAnswer). b .number) is) ∙ z) in
     reads-are p l matrix work message (is ∙ sym same) (sym (refused-front (r .number) (messageIn p l matrix) message other))

@@ -57,7 +57,7 @@ pub fn read(
 // Writes a message and reads the matrix with the same parameters and list, so that a label is seen to read
 // back before it is printed. The answer is the read's, and the write's where that is refused. The field
 // `reads-back` of what is promised is demand 2's round trip: on legal input 6 where the message has no room,
-// and else the message, with no repair.
+// and else the message, with no repair and no wrong stuffing bit.
 pub fn write_and_read(
     p: Params,
     list: &[u16],

@@ -29,9 +29,9 @@ paramsOf w =
 abbrev pub writeWords : Answer → List ℕ
 writeWords a = a .number ∷ a .place ∷ []
 
--- number, place, length, repairs, first unmet count
+-- number, place, length, repairs, first unmet count, wrong stuffing bits
 abbrev pub readWords : ReadAnswer → List ℕ
-readWords a = a .number ∷ a .place ∷ a .length ∷ a .repairs ∷ a .unmet ∷ []
+readWords a = a .number ∷ a .place ∷ a .length ∷ a .repairs ∷ a .unmet ∷ a .stuffing ∷ []
 
 -- number, place, columns, rows, C, Pn, work bytes, Pg, K
 abbrev pub sizesWords : SizesAnswer → List ℕ

@@ -69,7 +69,7 @@ pub extern "C" fn jab_read(
     matrix: &[u8],
     work: &mut [u8],
     message: &mut [u8],
-    answer: &mut [u64; 5],
+    answer: &mut [u64; 6],
 )
     ensures reads { λ _. ⌜ ReadsFor (now (params .entry)) (now (reserved .entry)) (now (matrix .entry)) (now (work .entry)) (now (message .entry)) (now (work .exit)) (now (message .exit)) (now (answer .exit)) ⌝ }
 {
@@ -80,5 +80,6 @@ pub extern "C" fn jab_read(
         a.length as u64,
         a.repairs as u64,
         a.unmet as u64,
+        a.stuffing as u64,
     ];
 }

@@ -8,12 +8,12 @@
 // `write` takes a record from standard input and prints its symbol, one digit a module, one line a row.
 // `read` takes such a text and prints a line of numbers and the message behind it. A write that is refused
 // prints such a line alone. Its numbers are document 01's number and place, the bytes of the record or the
-// message, the modules, repairs, checks unmet at first, and then of the symbol: columns, rows, C, net bits,
-// work bytes and checks, which are 0 with 1, 2 and 3. `colours` prints how many colours there are and the
-// indices of black, cyan and yellow.
+// message, the modules, repairs, checks unmet at first, wrong stuffing bits, and then of the symbol: columns,
+// rows, C, net bits, work bytes and checks, which are 0 with 1, 2 and 3. `colours` prints how many colours there
+// are and the indices of black, cyan and yellow.
 //
 // Document 01: programs keep to symbols of C at most 1,047 with wc 3, wr 9: at most 53,964 work bytes. Another
-// wc or wr is refused with the line `100` and eleven zeros; 100 is no number of document 01. The work buffer
+// wc or wr is refused with the line `100` and twelve zeros; 100 is no number of document 01. The work buffer
 // has 53,964 bytes, with which no greater C passes test 5.
 use calls::ReadAnswer;
 use libc::STDIN_FILENO;
@@ -239,7 +239,7 @@ fn print_colours(p: Params) {
 
 // Prints the refusal of a wc or wr beyond the limit.
 fn print_beyond() {
-    print_numbers(&[100, 0, 0, 0, 0, 0, 0, 0, 0, 0, 0, 0]);
+    print_numbers(&[100, 0, 0, 0, 0, 0, 0, 0, 0, 0, 0, 0, 0]);
 }
 
 fn area(columns: usize, rows: usize) -> usize
@@ -260,6 +260,7 @@ fn print_answer(p: Params, list: &[u16], answer: ReadAnswer, bytes: usize, modul
             modules,
             answer.repairs,
             answer.unmet,
+            answer.stuffing,
             sizes.columns,
             sizes.rows,
             sizes.capacity,

@@ -1,7 +1,7 @@
 -- Laws of how many numbers below a bound, and how many elements of a list, pass a test.
 -- Assumes nothing.
 use Prim.Native.Nat.{ℕ, zero, suc, _+_, _*_, _/_, _<_, _≤_}
-use mathlib.Core.Path.{_≡_, refl, sym, ap, _∙_}
+use mathlib.Core.Path.{_≡_, refl, sym, ap, ap₂, _∙_}
 use mathlib.Core.Bool.{Bool, true, false, cond, not, _&&_}
 use mathlib.Core.Logic.{∥∥₁-elim}
 use mathlib.Core.List.{List, [], _∷_, _++_, Perm, List·Permᴰ, List·Permᴰ·nil, List·Permᴰ·cons, List·Permᴰ·swap, List·Permᴰ·trans}
@@ -9,11 +9,12 @@ use native.Mathlib.Nat.{ℕ-set, add-zero, add-suc, suc-mul, mul-add-div-right, 
 use native.Mathlib.Omega.{arith}
 use native.Mathlib.Decide.{ℕ-discrete, decLt}
 use lib.Dec.{eqb, ltb}
-use lib.ListN.{length, length-append}
-use borrow.Author.Tests.{eq-eqb, ne-eqb, le-ltb, lt-ltb, eqb-true}
+use lib.ListN.{length, getD, length-append}
+use borrow.Author.Tests.{eq-eqb, ne-eqb, le-ltb, lt-ltb, eqb-true, not-false}
 use Rattle.symbology.specs.Ranges.{tally, tabulate, those}
+use Rattle.symbology.specs.Bits.{differing}
 use Rattle.symbology.proofs.Ranges.{and-left, and-right}
-use Rattle.laws.proofs.Ranges.{those-ext, by}
+use Rattle.laws.proofs.Ranges.{those-ext, by, tally-le, tally-none}
 
 -- ---- factors
 
@@ -48,6 +49,14 @@ number-split f m (suc n) =
     ap (λ (k : ℕ). length (those k f)) (add-suc m n)
     ∙ omega (arith, number-suc f (m + n), number-suc (λ i. f (m + i)) n, number-split f m n)
 
+pub number-front : (f : ℕ → Bool) (n : ℕ) → length (those (suc n) f) ≡ tally (f 0) + length (those n (λ i. f (suc i)))
+number-front f zero = omega (arith, number-suc f 0, number-zero f, number-zero (λ i. f (suc i)))
+number-front f (suc n) = omega (arith, number-suc f (suc n), number-front f n, number-suc (λ i. f (suc i)) n)
+
+pub number-most : (f : ℕ → Bool) (n : ℕ) → length (those n f) ≤ n
+number-most f zero = omega (arith, number-zero f)
+number-most f (suc n) = omega (arith, number-suc f n, tally-le (f n), number-most f n)
+
 pub number-none : (f : ℕ → Bool) (n : ℕ) → ((i : ℕ) → i < n → f i ≡ false) → length (those n f) ≡ 0
 number-none f zero h = number-zero f
 number-none f (suc n) h =
@@ -59,6 +68,33 @@ number-all f zero h = number-zero f
 number-all f (suc n) h =
     let last : tally (f n) ≡ 1 = ap tally (h n (omega arith)) in
     omega (arith, number-suc f n, number-all f n (λ i l. h i (omega arith)))
+
+-- a word differs from itself in no bit
+pub differing-self : (x : List ℕ) → differing x x ≡ 0
+unfolding differing
+differing-self x =
+    number-none (λ i. not (eqb (getD x i 0) (getD x i 0))) (length x) (λ i h. ap not (eq-eqb (getD x i 0) (getD x i 0) refl))
+
+-- a bit in front of both: whether these differ is added
+pub differing-cons : (b c : ℕ) (x y : List ℕ) → differing (b ∷ x) (c ∷ y) ≡ tally (not (eqb b c)) + differing x y
+unfolding differing
+differing-cons b c x y = number-front (λ i. not (eqb (getD (b ∷ x) i 0) (getD (c ∷ y) i 0))) (length x)
+
+-- words of one length that differ in no bit are the same
+pub differing-none : (x y : List ℕ) → length x ≡ length y → differing x y ≡ 0 → x ≡ y
+differing-none [] [] l e = refl
+differing-none [] (c ∷ y) l e = absurd (omega arith)
+differing-none (b ∷ x) [] l e = absurd (omega arith)
+differing-none (b ∷ x) (c ∷ y) l e =
+    let both = differing-cons b c x y in
+    let here : b ≡ c = eqb-true b c (not-false (eqb b c) (tally-none (not (eqb b c)) (omega (arith, both)))) in
+    let behind : x ≡ y = differing-none x y (omega arith) (omega (arith, both)) in
+    ap₂ (λ (z : ℕ) (zs : List ℕ). z ∷ zs) here behind
+
+-- and from another in no more bits than it has
+pub differing-most : (x y : List ℕ) → differing x y ≤ length x
+unfolding differing
+differing-most x y = number-most (λ i. not (eqb (getD x i 0) (getD y i 0))) (length x)
 
 -- one number below n is k
 pub number-one : (k n : ℕ) → k < n → length (those n (λ i. eqb k i)) ≡ 1

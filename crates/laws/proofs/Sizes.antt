@@ -1,10 +1,10 @@
 -- Legal symbols, and what their sizes say of one another.
 -- Assumes nothing.
-use Prim.Native.Nat.{ℕ, _+_, _-_, _*_, _≤_, _<_}
+use Prim.Native.Nat.{ℕ, _+_, _-_, _*_, _%_, _≤_, _<_}
 use mathlib.Core.Path.{_≡_, sym, ap, _∙_}
 use mathlib.Core.Bool.{true}
 use mathlib.Core.List.{List}
-use native.Mathlib.Nat.{mul-comm, mul-add, div-mul-le-self}
+use native.Mathlib.Nat.{mul-comm, mul-add, div-mul-le-self, div-add-mod', mod-lt}
 use native.Mathlib.Omega.{arith}
 use lib.ListN.{length}
 use Rattle.symbology.specs.declared.Params.{Params}
@@ -57,6 +57,15 @@ sampled-whole p l matrix k = length-sampled p l matrix ∙ capacity-is p l k
 pub gross-most : (p : Params) (l : List ℕ) → sizesFor p l .gross ≤ sizesFor p l .capacity
 unfolding sizesOf
 gross-most p l = div-mul-le-self (capacity p (entries l) .0) (p .wr)
+
+-- There are at most 8 stuffing bits.
+pub stuffing-few : (p : Params) (l : List ℕ) → inRange p ≡ true → sizesFor p l .capacity - sizesFor p l .gross ≤ 8
+unfolding sizesOf
+stuffing-few p l range =
+    let c : ℕ = capacity p (entries l) .0 in
+    let given = ranges p range in
+    let rest : c % p .wr < p .wr = mod-lt c (omega (arith, given .wc-below)) in
+    omega (arith, rest, given .wr-most, div-add-mod' c (p .wr))
 
 -- Pg is K and Pn together
 pub gross-parts : (p : Params) (l : List ℕ)

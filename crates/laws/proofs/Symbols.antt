@@ -2,19 +2,18 @@
 -- matrix, and the checks that it is judged by.
 -- Assumes nothing.
 use Prim.Native.Nat.{ℕ, _+_, _-_, _*_, _≤_, _<_}
-use mathlib.Core.Path.{_≡_, refl, sym, ap, ap₂, _∙_}
+use mathlib.Core.Path.{_≡_, sym, ap, _∙_}
 use mathlib.Core.Bool.{true}
-use mathlib.Core.List.{List, [], _∷_, _++_}
+use mathlib.Core.List.{List, [], _++_}
 use native.Mathlib.Nat.{le-trans}
 use native.Mathlib.Omega.{arith}
-use lib.Dec.{eqb}
-use lib.ListN.{length, getD, replicate}
+use lib.ListN.{length, getD, drop, replicate}
 use lib.Seq.{length-take-le}
-use borrow.Author.Tests.{eq-eqb, eqb-true}
 use Rattle.symbology.specs.declared.Params.{Params}
 use Rattle.symbology.specs.declared.Sizes.{Sizes}
 use Rattle.symbology.specs.Ranges.{tally, those, sumFrom, has}
 use Rattle.symbology.specs.Bits.{AllBits}
+use Rattle.symbology.specs.Parameters.{inRange}
 use Rattle.symbology.specs.Sides.{columns, rows}
 use Rattle.symbology.specs.Reserved.{entries}
 use Rattle.symbology.specs.Capacity.{dataModules, sizesOf, sizesFor}
@@ -24,18 +23,19 @@ use Rattle.symbology.specs.Placement.{filled, sampled}
 use Rattle.symbology.specs.Code.{matrixFor, codewordFor, checksFor, messageBitsFor}
 use Rattle.symbology.specs.Rule.{unmetCount}
 use Rattle.symbology.specs.Codeword.{messageColumns}
-use Rattle.symbology.specs.Symbol.{receivedBits, receivedWord, sameBits}
-use Rattle.symbology.proofs.Ranges.{clash, and-left, and-right}
+use Rattle.symbology.specs.Net.{stuffing}
+use Rattle.symbology.specs.Symbol.{receivedBits, receivedWord, wrongStuffing}
 use Rattle.laws.proofs.Ranges.{getD-tabulate, has-those, Ascending}
 use Rattle.laws.proofs.Bits.{take-bits}
-use Rattle.laws.proofs.Counting.{number-ext}
+use Rattle.laws.proofs.Net.{length-stuffing}
+use Rattle.laws.proofs.Counting.{number-ext, differing-most}
 use Rattle.laws.proofs.Reserved.{sound-list}
 use Rattle.laws.proofs.DataModules.{free, data-free, data-count}
 use Rattle.laws.proofs.Placement.{filled-below, sampled-filled, sampled-bits}
 use Rattle.laws.proofs.Shuffle.{length-unshuffled, unshuffled-every}
 use Rattle.laws.proofs.Matrix.{column-weight, check-weight}
 use Rattle.laws.proofs.Rule.{AllOnce, checks-once, check-ascends}
-use Rattle.laws.proofs.Sizes.{LegalSymbol, capacity-is, sampled-whole, gross-most, net-fits}
+use Rattle.laws.proofs.Sizes.{LegalSymbol, capacity-is, sampled-whole, gross-most, stuffing-few, net-fits}
 use Rattle.laws.proofs.Codeword.{IsCodeword, codeword-is, codeword-found, message-back}
 
 module _ (p : Params) (l : List ℕ) (legal : LegalSymbol p l) where
@@ -145,23 +145,16 @@ length-received p l matrix k =
     length-unshuffled 0 interleavingSeed (sampled p l matrix) ∙ sampled-whole p l matrix k in
     length-take-le (sizesFor p l .gross) (receivedBits p l matrix) (omega (arith, whole, gross-most p l))
 
+-- At most 8 of its stuffing bits are wrong.
+pub wrong-few : (p : Params) (l matrix : List ℕ) → inRange p ≡ true → wrongStuffing p l matrix ≤ 8
+unfolding wrongStuffing
+wrong-few p l matrix range =
+    let s : Sizes = sizesFor p l in
+    let end : List ℕ = stuffing (s .capacity - s .gross) in
+    let got : List ℕ = drop (s .gross) (receivedBits p l matrix) in
+    omega (arith, differing-most end got, length-stuffing (s .capacity - s .gross), stuffing-few p l range)
+
 -- the checks of a symbol name each of their columns once
 pub symbol-once : (s : Sizes) → AllOnce (checksFor s)
 unfolding checksFor
 symbol-once s = checks-once (s .checks) (s .gross) _
-
--- the comparison of test 8 holds of equal lists
-pub same-self : (bs : List ℕ) → sameBits bs bs ≡ true
-unfolding sameBits
-same-self [] = refl
-same-self (b ∷ bs) = rw (eq-eqb b b refl) (same-self bs)
-
--- and of no others
-pub same-means : (bs cs : List ℕ) → sameBits bs cs ≡ true → bs ≡ cs
-unfolding sameBits
-same-means [] [] e = refl
-same-means [] (c ∷ cs) e = clash e refl
-same-means (b ∷ bs) [] e = clash e refl
-same-means (b ∷ bs) (c ∷ cs) e =
-    ap₂ (λ (x : ℕ) (xs : List ℕ). x ∷ xs) (eqb-true b c (and-left (eqb b c) (sameBits bs cs) e))
-    (same-means bs cs (and-right (eqb b c) (sameBits bs cs) e))

@@ -5,19 +5,20 @@ use mathlib.Core.Path.{_≡_, ap, _∙_}
 use mathlib.Core.List.{List, _++_}
 use native.Mathlib.Nat.{mul-comm}
 use native.Mathlib.Omega.{arith}
-use lib.ListN.{length, take, length-append}
-use lib.Seq.{take-at}
+use lib.ListN.{length, take, drop, length-append}
+use lib.Seq.{take-at, drop-at}
 use Rattle.symbology.specs.declared.Params.{Params}
 use Rattle.symbology.specs.declared.Sizes.{Sizes}
-use Rattle.symbology.specs.Bits.{AllBits}
+use Rattle.symbology.specs.Bits.{AllBits, differing}
 use Rattle.symbology.specs.Sides.{columns, rows}
 use Rattle.symbology.specs.Capacity.{sizesOf, sizesFor}
 use Rattle.symbology.specs.Shuffle.{unshuffled, interleavingSeed}
 use Rattle.symbology.specs.Code.{codewordFor}
 use Rattle.symbology.specs.Net.{withEndMark, stuffing}
 use Rattle.symbology.specs.Placement.{filled, sampled, firstBadModule}
-use Rattle.symbology.specs.Symbol.{placedBits, writtenMatrix, receivedBits, receivedWord}
+use Rattle.symbology.specs.Symbol.{placedBits, writtenMatrix, receivedBits, receivedWord, wrongStuffing}
 use Rattle.laws.proofs.Bits.{append-bits}
+use Rattle.laws.proofs.Counting.{differing-self}
 use Rattle.laws.proofs.Reserved.{sound-list}
 use Rattle.laws.proofs.Placement.{length-filled, no-bad-module}
 use Rattle.laws.proofs.Shuffle.{length-shuffled, unshuffled-shuffled, shuffled-every}
@@ -33,7 +34,7 @@ module _ (p : Params) (l stream : List ℕ) where
   abbrev pub wordOf : List ℕ
   wordOf = codewordFor (sizesFor p l) netOf
 
-  abbrev pub endOf : List ℕ
+  abbrev endOf : List ℕ
   endOf = stuffing (sizesFor p l .capacity - sizesFor p l .gross)
 
   -- A written matrix has the length that test 4 asks for.
@@ -75,6 +76,14 @@ module _ (p : Params) (l stream : List ℕ) where
           symbol-back p l k placed (shuffled-every 0 (λ (b : ℕ). b ≤ 1) interleavingSeed all each) long in
           let few : length all ≤ 4096 = omega (arith, whole, k .most) in
           ap (λ (x : List ℕ). unshuffled 0 interleavingSeed x) same ∙ unshuffled-shuffled 0 interleavingSeed all few
+
+      -- No stuffing bit of a written matrix is wrong.
+      pub written-stuffing : wrongStuffing p l (writtenMatrix p l stream) ≡ 0
+      unfolding wrongStuffing
+      written-stuffing =
+          ap (λ (bs : List ℕ). differing endOf (drop (sizesFor p l .gross) bs)) written-received
+          ∙ ap (differing endOf) (drop-at wordOf endOf (sizesFor p l .gross) written-wide)
+          ∙ differing-self endOf
 
       -- The received word of a written matrix is its codeword.
       pub written-word : receivedWord p l (writtenMatrix p l stream) ≡ wordOf

@@ -1,7 +1,7 @@
--- The answers of the stages and the message buffer at exit: what a refusal of 7 to 10 gives, and what the stage behind hands on.
+-- The answers of the stages and the message buffer at exit: what a refusal of 7, 9 or 10 gives, and what the stage behind hands on.
 -- Assumes nothing.
 use Prim.Native.Nat.{ℕ, _≤_, _<_}
-use mathlib.Core.Path.{_≡_, refl, sym, ap, ap₂, _∙_, subst}
+use mathlib.Core.Path.{_≡_, refl, sym, ap, ap₂, _∙_}
 use mathlib.Core.Bool.{Bool, true, false}
 use mathlib.Core.List.{List, [], _∷_}
 use native.Mathlib.Omega.{arith}
@@ -14,14 +14,14 @@ use Rattle.symbology.specs.Bits.{anyOne}
 use Rattle.symbology.specs.Rule.{lastWord, stuck}
 use Rattle.symbology.specs.Code.{matrixFor, checksFor, messageBitsFor}
 use Rattle.symbology.specs.Placement.{firstBadModule}
-use Rattle.symbology.specs.Symbol.{receivedWord}
+use Rattle.symbology.specs.Symbol.{receivedWord, wrongStuffing}
 use Rattle.calls.specs.declared.Counts.{Counts}
 use Rattle.calls.specs.declared.StreamAnswer.{StreamAnswer}
 use Rattle.calls.specs.declared.ReadAnswer.{ReadAnswer}
 use Rattle.calls.specs.Answers.{counted, refused, fromStream}
-use Rattle.calls.specs.Tests.{firstOf, spareOne, badModule, badStuffing, frontRows, earlyRows, isLegal}
+use Rattle.calls.specs.Tests.{firstOf, spareOne, badModule, frontRows, earlyRows, isLegal}
 use Rattle.calls.specs.Read.{messageInAccepted, messageInNet, messageIn, frontAfter, streamAnswer}
-use Rattle.calls.specs.Read.{answerFromAccepted, countsOf, answerFromReceived, readAnswer}
+use Rattle.calls.specs.Read.{answerFromAccepted, mendedCounts, answerFromReceived, receivedCounts, readAnswer}
 use Rattle.call_laws.proofs.Tests.{first-append, first-hit, first-miss, first-none, first-passed}
 use Rattle.call_laws.proofs.Stages.{accepted-stream, accepted-spare, from-stuck, from-mended}
 use Rattle.call_laws.proofs.Answers.{refused-front}
@@ -85,19 +85,19 @@ module _ {s : Sizes} {a : Areas} {room : ℕ} {before after : List ℕ} {spare :
 
 -- ---- from the received word
 
-module _ (s : Sizes) (w : List ℕ) (room : ℕ) (before : List ℕ) where
+module _ (s : Sizes) (w : List ℕ) (got : Counts) (room : ℕ) (before : List ℕ) where
   abbrev FromReceived : ReadAnswer → List ℕ → Type 0
-  FromReceived a after = Answered (answerFromReceived s w room) (messageInAccepted s (lastWord (checksFor s) w)) before a after
+  FromReceived a after = Answered (answerFromReceived s w got room) (messageInAccepted s (lastWord (checksFor s) w)) before a after
 
 module _ {s : Sizes} {a : Areas} {size : ℕ} {work mended : List ℕ} {repairs unmet : ℕ} {isStuck : Bool} (r : RoomFor s a size)
-    (m : WordMended a (matrixFor s) work mended repairs unmet isStuck) (room : ℕ) (before : List ℕ) where
+    (m : WordMended a (matrixFor s) work mended repairs unmet isStuck) (got : Counts) (room : ℕ) (before : List ℕ) where
   abbrev w : List ℕ
   w = wordIn a work
 
   abbrev counts : Counts
-  counts = record { repairs = repairs; unmet = unmet }
+  counts = record { repairs = repairs; unmet = unmet; stuffing = got .stuffing }
 
-  counts-are : counts ≡ countsOf s w
+  counts-are : counts ≡ mendedCounts s w got
   counts-are = rw (m .repairs-are, m .first-is, checks-for r) refl
 
   stuck-told : isStuck ≡ stuck (checksFor s) w
@@ -107,17 +107,17 @@ module _ {s : Sizes} {a : Areas} {size : ℕ} {work mended : List ℕ} {repairs 
   last-is = m .word-is ∙ ap (λ (cs : List (List ℕ)). lastWord cs w) (checks-for r)
 
   -- 9: stuck
-  pub stuck-word : {answer : ReadAnswer} → isStuck ≡ true → answer ≡ counted counts 9 0 → FromReceived s w room before answer before
+  pub stuck-word : {answer : ReadAnswer} → isStuck ≡ true → answer ≡ counted counts 9 0 → FromReceived s w got room before answer before
   stuck-word t e =
       refusal (messageInAccepted s (lastWord (checksFor s) w)) before (λ z. omega arith) e
-      (from-stuck s w room (sym stuck-told ∙ t) ∙ ap (λ (c : Counts). counted c 9 0) (sym counts-are))
+      (from-stuck s w got room (sym stuck-told ∙ t) ∙ ap (λ (c : Counts). counted c 9 0) (sym counts-are))
 
   -- not stuck
   pub mended-word : {answer : ReadAnswer} {after : List ℕ} → isStuck ≡ false
-      → FromAccepted s (wordIn a mended) counts room before answer after → FromReceived s w room before answer after
+      → FromAccepted s (wordIn a mended) counts room before answer after → FromReceived s w got room before answer after
   mended-word {answer} t read =
       record {
-        answer-is = read .answer-is ∙ rw (last-is, counts-are) (sym (from-mended s w room (sym stuck-told ∙ t)));
+        answer-is = read .answer-is ∙ rw (last-is, counts-are) (sym (from-mended s w got room (sym stuck-told ∙ t)));
         message-is = read .message-is ∙ ap (λ (x : List ℕ). frontAfter (answer .number) (messageInAccepted s x) before) last-is;
       }
 
@@ -127,12 +127,12 @@ module _ (p : Params) (l matrix : List ℕ) (work room : ℕ) (before : List ℕ
   abbrev FromMatrix : ReadAnswer → List ℕ → Type 0
   FromMatrix a after = Answered (readAnswer p l matrix work room) (messageIn p l matrix) before a after
 
-  -- the answer behind the tests 7 and 8
+  -- the answer behind the test 7
   abbrev onward : ReadAnswer
-  onward = answerFromReceived (sizesFor p l) (receivedWord p l matrix) room
+  onward = answerFromReceived (sizesFor p l) (receivedWord p l matrix) (receivedCounts p l matrix) room
 
   -- the tests 1 to 5 are passed
-  behind : readAnswer p l matrix work room ≡ firstOf refused (badModule p matrix ∷ badStuffing p l matrix ∷ []) onward
+  behind : readAnswer p l matrix work room ≡ firstOf refused (badModule p matrix ∷ []) onward
   unfolding readAnswer earlyRows isLegal
   behind =
       first-append refused (frontRows p l (length matrix) work) _ onward
@@ -144,35 +144,22 @@ module _ (p : Params) (l matrix : List ℕ) (work room : ℕ) (before : List ℕ
   bad-module {a} {bad} is h e =
       let holds : badModule p matrix .test ≡ true = lt-ltb (firstBadModule (p .colours) matrix) (length matrix) (omega arith) in
       refusal (messageIn p l matrix) before (λ z. omega arith) e
-      (behind ∙ first-hit refused (badModule p matrix) (badStuffing p l matrix ∷ []) onward holds ∙ rw is refl)
+      (behind ∙ first-hit refused (badModule p matrix) [] onward holds ∙ rw is refl)
 
-  module _ {bad : ℕ} (is : bad ≡ firstBadModule (p .colours) matrix) (none : length matrix ≤ bad) where
-    passed-7 : readAnswer p l matrix work room ≡ firstOf refused (badStuffing p l matrix ∷ []) onward
-    passed-7 =
-        let fails : badModule p matrix .test ≡ false = le-ltb (firstBadModule (p .colours) matrix) (length matrix) (omega arith) in
-        behind ∙ first-miss refused (badModule p matrix) (badStuffing p l matrix ∷ []) onward fails
-
-    -- 8: a stuffing bit is wrong
-    pub bad-stuffing : {a : ReadAnswer} → badStuffing p l matrix .test ≡ true → a ≡ refused 8 0 → FromMatrix a before
-    bad-stuffing t e =
-        refusal (messageIn p l matrix) before (λ z. omega arith) e
-        (passed-7 ∙ first-hit refused (badStuffing p l matrix) [] onward t)
-
-    -- neither
-    pub good-matrix : {s : Sizes} {w after : List ℕ} {a : ReadAnswer}
-        → badStuffing p l matrix .test ≡ false
-        → s ≡ sizesFor p l
-        → w ≡ receivedWord p l matrix
-        → FromReceived s w room before a after
-        → FromMatrix a after
-    unfolding messageIn
-    good-matrix {s} {w} {after} {a} t sizes word read =
-        let moved : FromReceived s (receivedWord p l matrix) room before a after =
-        subst (λ (x : List ℕ). FromReceived s x room before a after) word read in
-        let given : FromReceived (sizesFor p l) (receivedWord p l matrix) room before a after =
-        subst (λ (z : Sizes). FromReceived z (receivedWord p l matrix) room before a after) sizes moved in
-        record {
-          answer-is =
-              given .answer-is ∙ sym (passed-7 ∙ first-miss refused (badStuffing p l matrix) [] onward t ∙ first-none refused onward);
-          message-is = given .message-is;
-        }
+  -- none is
+  pub good-matrix : {bad : ℕ} {s : Sizes} {w after : List ℕ} {n : ℕ} {a : ReadAnswer}
+      → bad ≡ firstBadModule (p .colours) matrix
+      → length matrix ≤ bad
+      → s ≡ sizesFor p l
+      → w ≡ receivedWord p l matrix
+      → n ≡ wrongStuffing p l matrix
+      → FromReceived s w (record { repairs = 0; unmet = 0; stuffing = n }) room before a after
+      → FromMatrix a after
+  unfolding messageIn
+  good-matrix {bad} {s} {w} {after} {n} {a} is none sizes word wrong read =
+      let fails : badModule p matrix .test ≡ false = le-ltb (firstBadModule (p .colours) matrix) (length matrix) (omega arith) in
+      let passed : readAnswer p l matrix work room ≡ onward =
+      behind ∙ first-miss refused (badModule p matrix) [] onward fails ∙ first-none refused onward in
+      let given : FromReceived (sizesFor p l) (receivedWord p l matrix) (receivedCounts p l matrix) room before a after =
+      rw (sizes, word, wrong) at read in
+      record { answer-is = given .answer-is ∙ sym passed; message-is = given .message-is }

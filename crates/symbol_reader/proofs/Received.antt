@@ -3,18 +3,17 @@
 -- Assumes nothing.
 use Prim.Native.Nat.{ℕ, _+_, _-_, _≤_}
 use mathlib.Core.Path.{_≡_, sym, ap, _∙_, subst⁻¹}
-use mathlib.Core.Bool.{Bool, not}
 use mathlib.Core.List.{List}
 use native.Mathlib.Omega.{arith}
 use lib.ListN.{length, take, drop, length-drop}
 use Rattle.symbology.specs.declared.Params.{Params}
 use Rattle.symbology.specs.declared.Sizes.{Sizes}
-use Rattle.symbology.specs.Bits.{AllBits}
+use Rattle.symbology.specs.Bits.{AllBits, differing}
 use Rattle.symbology.specs.Net.{stuffing}
 use Rattle.symbology.specs.Placement.{sampled}
 use Rattle.symbology.specs.Shuffle.{interleavingSeed}
 use Rattle.symbology.specs.Capacity.{sizesFor}
-use Rattle.symbology.specs.Symbol.{receivedBits, receivedWord, sameBits, wrongStuffing}
+use Rattle.symbology.specs.Symbol.{receivedBits, receivedWord, wrongStuffing}
 use Rattle.laws.proofs.Shuffle.{length-unshuffled}
 use Rattle.laws.proofs.Sizes.{sampled-whole}
 use Rattle.laws.proofs.Symbols.{received-bits}
@@ -94,19 +93,18 @@ module _ {p : Params} {l : List ℕ} {modules : ℕ} {work : List ℕ} {s : Size
     pub word-asks : RoomFor s a (length after) × AllBits (wordIn a after)
     word-asks = (room-as (k .room) same-room, subst⁻¹ AllBits word-received (received-bits p l matrix))
 
-    -- test 8, of the bits behind the word
-    pub stuffing-told : {r : Bool}
+    -- its wrong stuffing bits, of the bits behind the word
+    pub stuffing-told : {n : ℕ}
         → let end = part after (a .word + s .gross) (a .word + s .capacity - (a .word + s .gross)) in
-        r ≡ not (sameBits end (stuffing (length end))) → r ≡ wrongStuffing (sizesFor p l) (receivedBits p l matrix)
+        n ≡ differing (stuffing (length end)) end → n ≡ wrongStuffing p l matrix
     unfolding wrongStuffing
-    stuffing-told {r} e =
+    stuffing-told e =
         let rest : List ℕ = drop (s .gross) bits in
         let same : part after (a .word + s .gross) (a .word + s .capacity - (a .word + s .gross)) ≡ rest =
         behind-back (a .word) (s .capacity) work bits bits-fit many-bits (s .gross) (k .room .sizes .inside) in
         let long : length rest ≡ s .capacity - s .gross = length-drop (s .gross) bits ∙ ap (λ (n : ℕ). n - s .gross) many-bits in
         e
-        ∙ ap (λ (x : List ℕ). not (sameBits x (stuffing (length x)))) same
-        ∙ ap (λ (n : ℕ). not (sameBits rest (stuffing n))) long
-        ∙ ap (λ (x : List ℕ). not (sameBits (drop (s .gross) x) (stuffing (s .capacity - s .gross)))) got
-        ∙ ap (λ (z : Sizes). not (sameBits (drop (z .gross) (receivedBits p l matrix)) (stuffing (z .capacity - z .gross))))
-        (k .sizes-are)
+        ∙ ap (λ (x : List ℕ). differing (stuffing (length x)) x) same
+        ∙ ap (λ (n : ℕ). differing (stuffing n) rest) long
+        ∙ ap (λ (x : List ℕ). differing (stuffing (s .capacity - s .gross)) (drop (s .gross) x)) got
+        ∙ ap (λ (z : Sizes). differing (stuffing (z .capacity - z .gross)) (drop (z .gross) (receivedBits p l matrix))) (k .sizes-are)

@@ -1,9 +1,10 @@
 // The message of a sampled matrix: what a read does once the tests 1 to 5 are passed. The C bits are
 // received into the work buffer, the word is mended there, and the net bits are read from it.
 //
-// `jabcode::read` is the way in, and makes the tests before. The stages follow document 01's tests: 7 and
-// 8, then 9, then 10, then 11 to 14, which are `stream_reader::read_net`. The counts are handed on as one
-// value; `room` is the length that a message may have, whatever the buffer that it is stored to.
+// `jabcode::read` is the way in, and makes the tests before. The stages follow document 01's tests: 7, then
+// 9, then 10, then 11 to 14, which are `stream_reader::read_net`. The counts are handed on as one value, in
+// which each stage sets its own; `room` is the length that a message may have, whatever the buffer that it
+// is stored to.
 use calls::Counts;
 use calls::ReadAnswer;
 use lent::Areas;
@@ -11,13 +12,13 @@ use symbology::Params;
 use symbology::Sizes;
 ghost use Prim.Native.Nat.{_≤_};
 ghost use mathlib.Core.Path.{_≡_};
-ghost use mathlib.Core.Bool.{true, not};
+ghost use mathlib.Core.Bool.{true};
 ghost use lib.ListN.{length};
-ghost use Rattle.symbology.specs.Bits.{AllBits};
+ghost use Rattle.symbology.specs.Bits.{AllBits, differing};
 ghost use Rattle.symbology.specs.Rule.{lastWord};
 ghost use Rattle.symbology.specs.Net.{stuffing};
 ghost use Rattle.symbology.specs.Capacity.{sizesFor};
-ghost use Rattle.symbology.specs.Symbol.{receivedBits, sameBits};
+ghost use Rattle.symbology.specs.Symbol.{receivedBits};
 ghost use Rattle.symbology.specs.Code.{matrixFor, checksFor};
 ghost use Rattle.calls.specs.Tests.{isLegal};
 ghost use Rattle.calls.specs.Read.{answerFromAccepted, answerFromReceived, readAnswer, messageInAccepted, messageIn};
@@ -50,14 +51,22 @@ fn from_accepted(
 }
 
 // From the received word: 9, stuck; else the read goes on from the word the rule ends with.
-fn from_received(s: Sizes, a: Areas, work: &mut [u8], room: usize, message: &mut [u8]) -> ReadAnswer
+fn from_received(
+    s: Sizes,
+    a: Areas,
+    work: &mut [u8],
+    got: Counts,
+    room: usize,
+    message: &mut [u8],
+) -> ReadAnswer
     requires { ⌜ RoomFor s a (length (now work)) × AllBits (wordIn a (now work)) ⌝ }
-    ensures { λ r. ⌜ Answered (answerFromReceived s (wordIn a (now (work .entry))) room) (messageInAccepted s (lastWord (checksFor s) (wordIn a (now (work .entry))))) (now (message .entry)) r (now (message .exit)) ⌝ }
+    ensures { λ r. ⌜ Answered (answerFromReceived s (wordIn a (now (work .entry))) got room) (messageInAccepted s (lastWord (checksFor s) (wordIn a (now (work .entry))))) (now (message .entry)) r (now (message .exit)) ⌝ }
 {
     let mended = ldpc::mend(work, s, a);
     let c = Counts {
         repairs: mended.repairs,
         unmet: mended.unmet,
+        stuffing: got.stuffing,
     };
     if mended.stuck {
         return calls::counted(c, 9);
@@ -74,21 +83,22 @@ fn receive(p: Params, list: &[u16], matrix: &[u8], out: &mut [u8])
     shuffle::unshuffle(out, shuffle::INTERLEAVING_SEED);
 }
 
-// Test 8: one of the stuffing bits is not as it should be.
-fn is_wrong_stuffing(bits: &[u8]) -> bool
-    ensures { λ r. ⌜ r ≡ not (sameBits (now (bits .entry)) (stuffing (length (now (bits .entry))))) ⌝ }
+// How many stuffing bits are wrong.
+fn wrong_stuffing(bits: &[u8]) -> usize
+    ensures { λ r. ⌜ r ≡ differing (stuffing (length (now (bits .entry)))) (now (bits .entry)) ⌝ }
 {
+    let mut wrong = 0;
     let mut i = 0;
     while i < bits.len() {
         if bits[i] as usize != i % 2 {
-            return true;
+            wrong += 1;
         }
         i += 1;
     }
-    false
+    wrong
 }
 
-// From a sampled matrix: 7 and 8, and what follows. The work buffer is left as it was used.
+// From a sampled matrix: 7, and what follows. The work buffer is left as it was used.
 fn read_uncleared(
     p: Params,
     list: &[u16],
@@ -110,10 +120,12 @@ fn read_uncleared(
     let seam = at + s.gross;
     let end = at + s.capacity;
     receive(p, list, matrix, &mut work[at..end]);
-    if is_wrong_stuffing(&work[seam..end]) {
-        return calls::refused(8, 0);
-    }
-    from_received(s, a, work, room, message)
+    let c = Counts {
+        repairs: 0,
+        unmet: 0,
+        stuffing: wrong_stuffing(&work[seam..end]),
+    };
+    from_received(s, a, work, c, room, message)
 }
 
 // A read of legal input, with the sizes of its symbol. The work buffer is cleared behind it.

@@ -1,12 +1,11 @@
 -- A whole symbol: the matrix of a stream, and the bits received from a matrix. `l` is the reserved list.
 -- Assumes nothing.
 use Prim.Native.Nat.{ℕ, _-_}
-use mathlib.Core.Bool.{Bool, true, false, not, _&&_}
-use mathlib.Core.List.{List, [], _∷_, _++_}
+use mathlib.Core.List.{List, _++_}
 use lib.ListN.{take, drop}
-use lib.Dec.{eqb}
 use Rattle.symbology.specs.declared.Params.{Params}
 use Rattle.symbology.specs.declared.Sizes.{Sizes}
+use Rattle.symbology.specs.Bits.{differing}
 use Rattle.symbology.specs.Capacity.{sizesFor}
 use Rattle.symbology.specs.Shuffle.{shuffled, unshuffled, interleavingSeed}
 use Rattle.symbology.specs.Code.{codewordFor}
@@ -35,13 +34,8 @@ receivedBits p l matrix = unshuffled 0 interleavingSeed (sampled p l matrix)
 unfoldable pub receivedWord : Params → List ℕ → List ℕ → List ℕ
 receivedWord p l matrix = take (sizesFor p l .gross) (receivedBits p l matrix)
 
--- two lists of bits are equal
-unfoldable pub sameBits : List ℕ → List ℕ → Bool
-sameBits [] [] = true
-sameBits [] (c ∷ cs) = false
-sameBits (b ∷ bs) [] = false
-sameBits (b ∷ bs) (c ∷ cs) = eqb b c && sameBits bs cs
-
--- of C bits received, a stuffing bit is wrong
-unfoldable pub wrongStuffing : Sizes → List ℕ → Bool
-wrongStuffing s bs = not (sameBits (drop (s .gross) bs) (stuffing (s .capacity - s .gross)))
+-- document 02, W-202: how many stuffing bits are wrong in a sampled matrix, of those received behind the word
+unfoldable pub wrongStuffing : Params → List ℕ → List ℕ → ℕ
+wrongStuffing p l matrix =
+    let s = sizesFor p l in
+    differing (stuffing (s .capacity - s .gross)) (drop (s .gross) (receivedBits p l matrix))

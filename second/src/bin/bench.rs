@@ -49,6 +49,7 @@ fn run(codec: &Codec, input: &Input, lent: &mut Buffers) -> ReadAnswer {
                 length: 0,
                 repairs: 0,
                 unmet: 0,
+                stuffing: 0,
             }
         }
         Call::Read(matrix) => {

@@ -3,8 +3,8 @@
 //!
 //! `labels write` prints the text of the record on standard input; `labels
 //! read` reads such a text and prints the line `NUMBER PLACE LENGTH REPAIRS
-//! UNMET` and then the message. `labels refused NUMBER`, 10 to 13, prints a
-//! text that no writer makes and a reader refuses with this number.
+//! UNMET STUFFING` and then the message. `labels refused NUMBER`, 10 to 13,
+//! prints a text that no writer makes and a reader refuses with this number.
 
 use second::{read, sizes, stream, write, Bits, Params, Symbol};
 use std::io::{self, Read, Write};
@@ -104,6 +104,7 @@ fn reading_of(text: &[u8]) -> Vec<u8> {
         answer.length,
         answer.repairs,
         answer.unmet,
+        answer.stuffing,
     ];
     let words: Vec<String> = numbers.iter().map(usize::to_string).collect();
     let mut reading = (words.join(" ") + "\n").into_bytes();

@@ -1,6 +1,7 @@
 //! Writes the input and the expected output of a conformance program:
 //! `vectors DIR` makes DIR/stdin and DIR/stdout, `vectors --summary` counts the
-//! answers. The cases come from a fixed seed, the answers from this codec.
+//! answers, and the reads of each with 1 to 8 wrong stuffing bits. The cases
+//! come from a fixed seed, the answers from this codec.
 
 #[path = "../vectors/case.rs"]
 mod case;
@@ -10,16 +11,19 @@ mod damage;
 mod refusals;
 #[path = "../vectors/streams.rs"]
 mod streams;
+#[path = "../vectors/stuffing.rs"]
+mod stuffing;
 #[path = "../vectors/symbols.rs"]
 mod symbols;
 #[path = "../vectors/writes.rs"]
 mod writes;
 
 use case::{Book, Case};
+use second::params::RETIRED;
 use std::path::Path;
 use std::{env, fs, io, process};
 
-const MOST_INPUT: usize = 450_000;
+const MOST_INPUT: usize = 500_000;
 
 fn all_cases() -> Vec<Case> {
     let mut book = Book::new(0x4A41_4243_6F64_6531);
@@ -27,6 +31,7 @@ fn all_cases() -> Vec<Case> {
     writes::add(&mut book);
     streams::add(&mut book);
     damage::add(&mut book);
+    stuffing::add(&mut book);
     book.into_cases()
 }
 
@@ -40,17 +45,45 @@ fn write_files(directory: &Path) -> io::Result<()> {
     fs::write(directory.join("stdout"), output)
 }
 
+/// The writes and reads of an answer, and its reads by wrong stuffing bits.
+#[derive(Clone, Copy, Default)]
+struct Row {
+    writes: usize,
+    reads: usize,
+    stuffing: [usize; 9],
+}
+
+impl Row {
+    fn count(&mut self, is_read: bool, stuffing: usize) {
+        if is_read {
+            self.reads += 1;
+            self.stuffing[stuffing] += 1;
+        } else {
+            self.writes += 1;
+        }
+    }
+
+    fn print(&self, name: &str) {
+        print!("{name:>6}  {:6}  {:5} ", self.writes, self.reads);
+        for count in &self.stuffing[1..] {
+            print!(" {count:3}");
+        }
+        println!();
+    }
+}
+
 fn print_summary() {
-    let mut counts = [[0; 2]; 15];
+    let (mut rows, mut all) = ([Row::default(); 15], Row::default());
     for case in all_cases() {
-        counts[case.answer().number as usize][usize::from(case.is_read())] += 1;
+        let (answer, is_read) = (case.answer(), case.is_read());
+        rows[answer.number as usize].count(is_read, answer.stuffing);
+        all.count(is_read, answer.stuffing);
     }
-    println!("answer  writes  reads");
-    for (number, [writes, reads]) in counts.iter().enumerate() {
-        println!("{number:6}  {writes:6}  {reads:5}");
+    println!("answer  writes  reads    1   2   3   4   5   6   7   8 stuffing bits wrong");
+    for (number, row) in (0u32..).zip(&rows).filter(|&(number, _)| number != RETIRED) {
+        row.print(&number.to_string());
     }
-    let total = |kind: usize| counts.iter().map(|count| count[kind]).sum::<usize>();
-    println!("   all  {:6}  {:5}", total(0), total(1));
+    all.print("all");
 }
 
 fn main() {

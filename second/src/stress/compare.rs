@@ -2,6 +2,7 @@
 
 use crate::both::{Codec, PROVED, SECOND};
 use crate::case::{Call, Case};
+use second::params::RETIRED;
 use second::{ReadAnswer, Refusal, Sizes};
 use std::panic;
 
@@ -16,6 +17,15 @@ pub enum Answer {
 pub struct Answers {
     pub sizes: Result<Sizes, Refusal>,
     pub answer: Answer,
+}
+
+impl Answers {
+    fn number(&self) -> u32 {
+        match self.answer {
+            Answer::Write(refusal) => refusal.number,
+            Answer::Read(answer) => answer.number,
+        }
+    }
 }
 
 /// Bytes or numbers in front of and behind what is lent.
@@ -117,7 +127,8 @@ fn run_or_panic(codec: &Codec, case: &Case) -> Option<(Answers, Buffers)> {
     panic::catch_unwind(|| run(codec, case)).ok()
 }
 
-/// What both answered, or how they differ.
+/// What both answered, or how they differ. That both give a number which is
+/// not given any more is a difference from the papers.
 pub fn compare(case: &Case) -> Result<Answers, String> {
     let proved = run_or_panic(&PROVED, case);
     let second = run_or_panic(&SECOND, case);
@@ -128,7 +139,13 @@ pub fn compare(case: &Case) -> Result<Answers, String> {
     };
     let place = proved.1.difference(&second.1);
     if proved.0 == second.0 && place.is_none() {
-        return Ok(second.0);
+        return match second.0.number() {
+            RETIRED => Err(format!(
+                "both: {:?}\n{RETIRED} is not given any more",
+                second.0
+            )),
+            _ => Ok(second.0),
+        };
     }
     let place = place.map_or("no buffer differs".to_string(), |(name, place)| {
         format!("the first difference of buffers is in {name}, at {place}")

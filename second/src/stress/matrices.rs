@@ -22,33 +22,48 @@ pub fn noise(chance: &mut Chance, colours: u32, modules: usize) -> Vec<u8> {
 }
 
 pub fn draw(chance: &mut Chance, symbol: &Symbol) -> Sampled {
-    let mut sampled = match chance.below(20) {
-        0..=5 => of_stream(symbol, &message_stream(chance, symbol)),
-        6..=11 => of_stream(symbol, &streams::draw(chance, symbol.lengths().net - 1)),
-        12 => {
-            let length = chance.below(symbol.lengths().net);
-            of_stream(symbol, &chance.bits(length))
+    let mut sampled = if chance.one_in(20) {
+        Sampled {
+            matrix: noise(chance, symbol.params().colours, symbol.modules()),
+            length: 0,
         }
-        13 | 14 => without_length(spare_columns_set(chance, symbol)),
-        15 => without_length(symbol.matrix_of_word(&Bits::zeros(symbol.lengths().gross))),
-        16 | 17 => without_length(wrong_stuffing(chance, symbol)),
-        18 => without_length(random_word(chance, symbol)),
-        _ => without_length(noise(chance, symbol.params().colours, symbol.modules())),
+    } else {
+        let (word, length) = draw_word(chance, symbol);
+        let mut sequence = symbol.stuffed(&word);
+        if chance.one_in(2) {
+            turn_stuffing(chance, symbol, &mut sequence);
+        }
+        Sampled {
+            matrix: symbol.matrix_of_sequence(&sequence),
+            length,
+        }
     };
     damage(chance, symbol, &mut sampled.matrix);
     sampled
 }
 
-fn without_length(matrix: Vec<u8>) -> Sampled {
-    Sampled { matrix, length: 0 }
+/// A word, and the bytes of the message whose stream it was made of, where it
+/// was made of one.
+fn draw_word(chance: &mut Chance, symbol: &Symbol) -> (Bits, usize) {
+    let lengths = symbol.lengths();
+    match chance.below(19) {
+        0..=6 => of_stream(symbol, &message_stream(chance, symbol)),
+        7..=12 => of_stream(symbol, &streams::draw(chance, lengths.net - 1)),
+        13 => {
+            let length = chance.below(lengths.net);
+            of_stream(symbol, &chance.bits(length))
+        }
+        14 | 15 => (spare_columns_set(chance, symbol), 0),
+        16 => (Bits::zeros(lengths.gross), 0),
+        17 => (symbol.systematic().codeword(&chance.bits(lengths.net)), 0),
+        _ => (chance.bits(lengths.gross), 0),
+    }
 }
 
-fn of_stream(symbol: &Symbol, bits: &Bits) -> Sampled {
+fn of_stream(symbol: &Symbol, bits: &Bits) -> (Bits, usize) {
     let net = stream::with_end_mark(bits, symbol.lengths().net);
-    Sampled {
-        matrix: symbol.matrix_of_message_columns(&net),
-        length: stream::read(bits).map_or(0, |message| message.len()),
-    }
+    let length = stream::read(bits).map_or(0, |message| message.len());
+    (symbol.systematic().codeword(&net), length)
 }
 
 /// The stream of a message that fits.
@@ -59,7 +74,7 @@ fn message_stream(chance: &mut Chance, symbol: &Symbol) -> Bits {
 }
 
 /// Any net bits, of which a stream may be left, and a 1 in a spare column.
-fn spare_columns_set(chance: &mut Chance, symbol: &Symbol) -> Vec<u8> {
+fn spare_columns_set(chance: &mut Chance, symbol: &Symbol) -> Bits {
     let net = symbol.lengths().net;
     let systematic = symbol.systematic();
     let spare = systematic.message_columns().len() - net;
@@ -72,24 +87,21 @@ fn spare_columns_set(chance: &mut Chance, symbol: &Symbol) -> Vec<u8> {
     for _ in 0..chance.between(1, 3) {
         columns.set(net + chance.below(spare), true);
     }
-    symbol.matrix_of_word(&systematic.codeword(&columns))
+    systematic.codeword(&columns)
 }
 
-/// A codeword with stuffing bits turned, where there are any.
-fn wrong_stuffing(chance: &mut Chance, symbol: &Symbol) -> Vec<u8> {
+/// Turns some stuffing bits or all, where there are any.
+fn turn_stuffing(chance: &mut Chance, symbol: &Symbol, sequence: &mut Bits) {
     let lengths = symbol.lengths();
-    let word = symbol.systematic().codeword(&chance.bits(lengths.net));
-    let mut sequence = symbol.stuffed(&word);
-    let stuffing = lengths.capacity - lengths.gross;
-    if stuffing > 0 {
-        sequence.flip(lengths.gross + chance.below(stuffing));
+    let mut places: Vec<usize> = (lengths.gross..lengths.capacity).collect();
+    if places.is_empty() {
+        return;
     }
-    symbol.matrix_of_sequence(&sequence)
-}
-
-fn random_word(chance: &mut Chance, symbol: &Symbol) -> Vec<u8> {
-    let word = chance.bits(symbol.lengths().gross);
-    symbol.matrix_of_word(&word)
+    chance.shuffle(&mut places);
+    let (some, all) = (chance.between(1, places.len()), places.len());
+    for &place in &places[..chance.pick(&[some, all])] {
+        sequence.flip(place);
+    }
 }
 
 fn damage(chance: &mut Chance, symbol: &Symbol, matrix: &mut [u8]) {

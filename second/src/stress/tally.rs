@@ -1,9 +1,12 @@
-//! What the cases were: answers, capacities and repairs.
+//! What the cases were: answers, capacities, repairs and wrong stuffing bits.
 
 use crate::compare::{Answer, Answers};
+use second::params::RETIRED;
 use std::fmt;
 
 const ANSWERS: usize = 15;
+/// The most stuffing bits there are: they are fewer than wr.
+const STUFFING: usize = 8;
 /// The highest C of each range.
 const RANGES: [usize; 6] = [60, 300, 1_100, 2_000, 3_000, 4_096];
 
@@ -13,6 +16,8 @@ pub struct Tally {
     sizes: [usize; ANSWERS],
     writes: [usize; ANSWERS],
     reads: [usize; ANSWERS],
+    /// The reads of each answer by their wrong stuffing bits.
+    stuffing: [[usize; STUFFING + 1]; ANSWERS],
     /// Those without a capacity stand behind the others.
     ranges: [usize; RANGES.len() + 1],
     mended: usize,
@@ -35,23 +40,25 @@ impl Tally {
             Answer::Write(refusal) => self.writes[refusal.number as usize] += 1,
             Answer::Read(answer) => {
                 self.reads[answer.number as usize] += 1;
+                self.stuffing[answer.number as usize][answer.stuffing] += 1;
                 self.mended += usize::from(answer.repairs > 0);
                 self.most_repairs = self.most_repairs.max(answer.repairs);
             }
         }
     }
-}
 
-impl fmt::Display for Tally {
-    fn fmt(&self, f: &mut fmt::Formatter) -> fmt::Result {
+    fn show_answers(&self, f: &mut fmt::Formatter) -> fmt::Result {
         writeln!(f, "answer   sizes  writes   reads")?;
-        for number in 0..ANSWERS {
+        for number in given() {
             let counts = (self.sizes[number], self.writes[number], self.reads[number]);
             writeln!(f, "{number:6} {:7} {:7} {:7}", counts.0, counts.1, counts.2)?;
         }
         let all = |counts: &[usize]| counts.iter().sum::<usize>();
         let (writes, reads) = (all(&self.writes), all(&self.reads));
-        writeln!(f, "   all {:7} {writes:7} {reads:7}\n", self.cases)?;
+        writeln!(f, "   all {:7} {writes:7} {reads:7}\n", self.cases)
+    }
+
+    fn show_ranges(&self, f: &mut fmt::Formatter) -> fmt::Result {
         writeln!(f, "C              cases")?;
         let mut low = 4;
         for (high, count) in RANGES.iter().zip(self.ranges) {
@@ -59,7 +66,46 @@ impl fmt::Display for Tally {
             low = high + 1;
         }
         let refused = self.ranges[RANGES.len()];
-        writeln!(f, "refused 1-3  {refused:7}\n")?;
+        writeln!(f, "refused 1-3  {refused:7}\n")
+    }
+
+    /// The reads with wrong stuffing bits: an answer a row, a count a column.
+    fn show_stuffing(&self, f: &mut fmt::Formatter) -> fmt::Result {
+        writeln!(f, "reads by wrong stuffing bits")?;
+        write!(f, "answer")?;
+        (1..=STUFFING).try_for_each(|count| write!(f, " {count:6}"))?;
+        writeln!(f, "     all")?;
+        for number in given().filter(|&number| self.stuffing[number][1..] != [0; STUFFING]) {
+            show_counts(f, &number.to_string(), &self.stuffing[number])?;
+        }
+        let mut all = [0; STUFFING + 1];
+        for (count, sum) in all.iter_mut().enumerate() {
+            *sum = self.stuffing.iter().map(|counts| counts[count]).sum();
+        }
+        show_counts(f, "all", &all)?;
+        writeln!(f)
+    }
+}
+
+/// The numbers that may be given; `compare` lets no other through.
+fn given() -> impl Iterator<Item = usize> {
+    (0..ANSWERS).filter(|&number| number != RETIRED as usize)
+}
+
+/// Reads by their wrong stuffing bits, those without any left out.
+fn show_counts(f: &mut fmt::Formatter, name: &str, counts: &[usize]) -> fmt::Result {
+    write!(f, "{name:>6}")?;
+    for count in &counts[1..] {
+        write!(f, " {count:6}")?;
+    }
+    writeln!(f, " {:7}", counts[1..].iter().sum::<usize>())
+}
+
+impl fmt::Display for Tally {
+    fn fmt(&self, f: &mut fmt::Formatter) -> fmt::Result {
+        self.show_answers(f)?;
+        self.show_ranges(f)?;
+        self.show_stuffing(f)?;
         let (mended, most) = (self.mended, self.most_repairs);
         write!(f, "{mended} reads with repairs, {most} repairs at most")
     }

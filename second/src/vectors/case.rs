@@ -62,9 +62,10 @@ pub struct Case {
     call: Call,
 }
 
-/// A case's number and its line of output.
+/// A case's number, its wrong stuffing bits and its line of output.
 pub struct Answer {
     pub number: u32,
+    pub stuffing: usize,
     pub line: String,
 }
 
@@ -111,6 +112,7 @@ impl Case {
         let (number, place) = (answer.number, answer.place);
         Answer {
             number,
+            stuffing: 0,
             line: format!("write {number} {place} {} {shown}\n", state(work)),
         }
     }
@@ -126,6 +128,7 @@ impl Case {
             answer.length,
             answer.repairs,
             answer.unmet,
+            answer.stuffing,
         ];
         let mut line = format!("read {} {} {}", joined(&counts), state(work), kept(rest));
         if !bytes.is_empty() {
@@ -134,6 +137,7 @@ impl Case {
         line.push('\n');
         Answer {
             number: answer.number,
+            stuffing: answer.stuffing,
             line,
         }
     }

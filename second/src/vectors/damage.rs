@@ -14,7 +14,7 @@ pub fn message_word(symbol: &Symbol, message: &[u8]) -> Bits {
     stream_word(symbol, &stream::write(message))
 }
 
-fn stream_word(symbol: &Symbol, stream: &Bits) -> Bits {
+pub fn stream_word(symbol: &Symbol, stream: &Bits) -> Bits {
     let net = stream::with_end_mark(stream, symbol.sizes().net);
     symbol.systematic().codeword(&net)
 }
@@ -45,7 +45,7 @@ fn modules_out_of_range(book: &mut Book) {
         let lent = book.chance.usual();
         let mut matrix = message_matrix(&lent.symbol(), b"out of range");
         if faults.len() > 1 {
-            // Wrong stuffing and a stuck word must not come first.
+            // A stuck word must not come first, nor wrong stuffing be counted.
             matrix.iter_mut().for_each(|module| *module ^= 1);
         }
         for &(index, above) in faults {
@@ -81,7 +81,7 @@ fn stuffing(book: &mut Book) {
         let mut sequence = symbol.stuffed(&message_word(&symbol, b"stuffing"));
         sequence.flip(symbol.lengths().gross + wrong);
         let matrix = symbol.matrix_of_sequence(&sequence);
-        let about = format!("read refused 8: C {capacity}, stuffing bit {wrong} turned");
+        let about = format!("read: C {capacity}, stuffing bit {wrong} turned");
         book.read(&about, &lent, matrix);
     }
     let lent = book.chance.with_capacity(742);
@@ -89,11 +89,11 @@ fn stuffing(book: &mut Book) {
     let mut sequence = book.chance.bits(742);
     sequence.set(symbol.lengths().gross, true);
     let matrix = symbol.matrix_of_sequence(&sequence);
-    book.read("read refused 8: noise, also in the stuffing", &lent, matrix);
+    book.read("read: noise, also in the stuffing", &lent, matrix);
 }
 
 /// Turns bits of a word until the mending is as wanted.
-fn search(
+pub fn search(
     book: &mut Book,
     symbol: &Symbol,
     word: &Bits,
@@ -178,7 +178,7 @@ fn several_bits(book: &mut Book) {
     }
 }
 
-/// Words of noise; a capacity that wr divides has no stuffing to go wrong.
+/// Words of noise, in symbols without stuffing bits.
 fn noise(book: &mut Book) {
     for capacity in [1_044, 90] {
         let lent = book.chance.with_capacity(capacity);
@@ -328,7 +328,7 @@ fn mended_refusals(book: &mut Book) {
 }
 
 /// The codeword of a stream with the first spare column set.
-fn spare_word(symbol: &Symbol, stream: &Bits) -> Bits {
+pub fn spare_word(symbol: &Symbol, stream: &Bits) -> Bits {
     let mut columns = stream::with_end_mark(stream, symbol.sizes().net);
     columns.push(true);
     symbol.systematic().codeword(&columns)

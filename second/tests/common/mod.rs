@@ -50,7 +50,8 @@ pub fn round_trip(symbol: &Symbol, message: &[u8]) -> u32 {
         let mut back = vec![165; message.len() + 3];
         let answer = second::read(symbol.params(), &list, &matrix, &mut work, &mut back);
         assert_eq!(answer.number, 0);
-        assert_eq!((answer.repairs, answer.unmet), (0, 0));
+        let counts = (answer.repairs, answer.unmet, answer.stuffing);
+        assert_eq!(counts, (0, 0, 0));
         assert_eq!(&back[..answer.length], message);
         assert_eq!(&back[answer.length..], [165; 3]);
     }

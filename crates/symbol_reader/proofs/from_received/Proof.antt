@@ -1,4 +1,5 @@
 -- `symbol_reader::from_received` meets its contract: test 9, then the word the rule ends with. Assumes nothing.
+use Rattle.lent.proofs.Work.{room-as}
 use Rattle.symbol_reader.proofs.Reading.{stuck-word, mended-word}
 use borrow.Author.Needs.{needs}
 use Rattle.symbol_reader.proofs.from_received.Statement.{statement}
@@ -18,10 +19,13 @@ returns c =
     let mended = c .before .before .before .before in
     let start = mended .before .before .before .before in
     let a = start .args in
-    stuck-word (start .pre .0) (mended .mend .ensures) (a .room) (a .message .now) (c .before .if1 .taken) (c .counted .ensures)
+    stuck-word (start .pre .0) (mended .mend .ensures) (a .got) (a .room) (a .message .now) (c .before .if1 .taken) (c .counted .ensures)
 
 from-accepted-requires : tie.Need-from-accepted-requires
-from-accepted-requires c κs = search needs
+from-accepted-requires c κs =
+    let mended = c .before .before .before .before .before in
+    let start = mended .before .before .before .before in
+    (room-as (start .pre .0) (mended .mend .ensures .changed .long), mended .mend .ensures .holds)
 
 same-length-2 : tie.Need-same-length-2
 same-length-2 c = search needs
@@ -36,7 +40,8 @@ returns-2 c =
     let mended = free .before .before .before in
     let start = mended .before .before .before .before in
     let a = start .args in
-    mended-word (start .pre .0) (mended .mend .ensures) (a .room) (a .message .now) (free .if1 .left) (onward .from-accepted .ensures)
+    mended-word (start .pre .0) (mended .mend .ensures) (a .got) (a .room) (a .message .now)
+    (free .if1 .left) (onward .from-accepted .ensures)
 
 pub from-received-spec : {M : Type 1} → statement M
 from-received-spec =

@@ -1,11 +1,11 @@
--- `symbol_reader::read_uncleared` meets its contract: tests 7 and 8 in their order, then the word in the buffer. Assumes nothing.
-use mathlib.Core.Path.{sym, _∙_}
+-- `symbol_reader::read_uncleared` meets its contract: test 7, then the word in the buffer, with its wrong stuffing bits counted. Assumes
+-- nothing.
 use native.Mathlib.Omega.{arith}
 use lib.ListN.{length}
 use Rattle.call_laws.proofs.Tests.{Legal, legal}
 use Rattle.lent.proofs.Work.{legal-sizes}
 use Rattle.symbol_reader.proofs.Received.{Sized, sized, bits-fit, bits-lent, same-room, word-received, word-asks, stuffing-told}
-use Rattle.symbol_reader.proofs.Reading.{bad-module, bad-stuffing, good-matrix}
+use Rattle.symbol_reader.proofs.Reading.{bad-module, good-matrix}
 use borrow.Author.Needs.{needs}
 use Rattle.symbol_reader.proofs.read_uncleared.Statement.{statement}
 use Rattle.symbol_reader.proofs.read_uncleared.Tie as tie
@@ -65,74 +65,55 @@ receive-requires : tie.Need-receive-requires
 receive-requires c κs =
     bits-lent (laid (c .before .before .before))
 
-sub-is-wrong-stuffing : tie.Need-sub-is-wrong-stuffing
-sub-is-wrong-stuffing c =
+sub-wrong-stuffing : tie.Need-sub-wrong-stuffing
+sub-wrong-stuffing c =
     let areas = c .before .before .before .before .before .before in
     omega (arith, laid areas .room .sizes .inside)
 
-part-is-wrong-stuffing-start : tie.Need-part-is-wrong-stuffing-start
-part-is-wrong-stuffing-start c =
+part-wrong-stuffing-start : tie.Need-part-wrong-stuffing-start
+part-wrong-stuffing-start c =
     let areas = c .before .before .before .before .before .before .before in
     omega (arith, laid areas .room .sizes .inside)
 
-part-is-wrong-stuffing-end : tie.Need-part-is-wrong-stuffing-end
-part-is-wrong-stuffing-end c =
+part-wrong-stuffing-end : tie.Need-part-wrong-stuffing-end
+part-wrong-stuffing-end c =
     let received = c .before .before .before in
     let areas = received .before .before .before .before in
     let start = areas .before .before .before .before .before .before .before in
     let k = laid areas in
     omega (arith, bits-fit k, same-room k (start .args .matrix .now) (received .receive .ensures))
 
-is-wrong-stuffing-requires : tie.Need-is-wrong-stuffing-requires
-is-wrong-stuffing-requires c κs = search needs
-
-refused-requires-2 : tie.Need-refused-requires-2
-refused-requires-2 c κs = search needs
-
-same-length : tie.Need-same-length
-same-length c = search needs
-
-returns-2 : tie.Need-returns-2
-returns-2 c =
-    let told = c .before .before in
-    let received = told .before .before .before .before .before in
-    let areas = received .before .before .before .before in
-    let free = areas .before in
-    let start = free .before .before .before .before .before .before in
-    let a = start .args in
-    let wrong = stuffing-told (laid areas) (a .matrix .now) (received .receive .ensures) (told .is-wrong-stuffing .ensures) in
-    bad-stuffing (a .p) (a .list .now) (a .matrix .now) (length (a .work .now)) (a .room) (a .message .now) (start .pre .0)
-    (free .before .first-bad-module .ensures) (free .if1 .left) (sym wrong ∙ c .before .if2 .taken) (c .refused2 .ensures)
+wrong-stuffing-requires : tie.Need-wrong-stuffing-requires
+wrong-stuffing-requires c κs = search needs
 
 from-received-requires : tie.Need-from-received-requires
 from-received-requires c κs =
-    let told = c .before .before .before in
+    let told = c .before .before in
     let received = told .before .before .before .before .before in
     let areas = received .before .before .before .before in
     let start = areas .before .before .before .before .before .before .before in
     word-asks (laid areas) (start .args .matrix .now) (received .receive .ensures)
 
+same-length : tie.Need-same-length
+same-length c = search needs
+
 same-length-2 : tie.Need-same-length-2
 same-length-2 c = search needs
 
-same-length-3 : tie.Need-same-length-3
-same-length-3 c = search needs
-
-returns-3 : tie.Need-returns-3
-returns-3 c =
+returns-2 : tie.Need-returns-2
+returns-2 c =
     let onward = c .before .before .before .before in
-    let right = onward .before .before .before in
-    let told = right .before in
+    let told = onward .before .before .before in
     let received = told .before .before .before .before .before in
     let areas = received .before .before .before .before in
     let free = areas .before in
     let start = free .before .before .before .before .before .before in
     let a = start .args in
     let k = laid areas in
-    let wrong = stuffing-told k (a .matrix .now) (received .receive .ensures) (told .is-wrong-stuffing .ensures) in
     good-matrix (a .p) (a .list .now) (a .matrix .now) (length (a .work .now)) (a .room) (a .message .now) (start .pre .0)
-    (free .before .first-bad-module .ensures) (free .if1 .left) (sym wrong ∙ right .if2 .left) (k .sizes-are)
-    (word-received k (a .matrix .now) (received .receive .ensures)) (onward .from-received .ensures)
+    (free .before .first-bad-module .ensures) (free .if1 .left) (k .sizes-are)
+    (word-received k (a .matrix .now) (received .receive .ensures))
+    (stuffing-told k (a .matrix .now) (received .receive .ensures) (told .wrong-stuffing .ensures)) (onward .from-received .ensures)
 
 pub read-uncleared-spec : {M : Type 1} → statement M
 read-uncleared-spec =
@@ -148,14 +129,11 @@ read-uncleared-spec =
     part-receive-start
     part-receive-end
     receive-requires
-    sub-is-wrong-stuffing
-    part-is-wrong-stuffing-start
-    part-is-wrong-stuffing-end
-    is-wrong-stuffing-requires
-    refused-requires-2
-    same-length
-    returns-2
+    sub-wrong-stuffing
+    part-wrong-stuffing-start
+    part-wrong-stuffing-end
+    wrong-stuffing-requires
     from-received-requires
+    same-length
     same-length-2
-    same-length-3
-    returns-3)
+    returns-2)
