@@ -10,7 +10,7 @@
  * - A pointer is not null, also where its length is 0, is aligned for its type, and points at as many elements as the length
  *   beside it says (params and answer: at one).
  * - A buffer that a call stores to overlaps no other argument. These are answer and work in every call that has them, matrix in
- *   jab_write and message in jab_read.
+ *   jab_write, and message and places in jab_read.
  *
  * The archive is for x86-64, where size_t has 64 bits.
  */
@@ -48,7 +48,8 @@ typedef struct {
  *
  * A matrix has one byte a module, a colour index, row after row from the upper left. */
 
-/* The numbers of an answer. The lowest that applies is given, and of 12 and 13 the one met first in the stream.
+/* The numbers of an answer. The first that applies is given, in the order of the list, and of 12 and 13 the one met first in the
+ * stream.
  *
  *    0  done
  *    1  a parameter is outside its range
@@ -62,6 +63,7 @@ typedef struct {
  *    7  read: a module is N or more. The place is the first such module's index in the matrix, counted from 0
  *    8  retired: no call gives it. It meant a wrong stuffing bit, which is counted now and refuses nothing
  *    9  read: the word cannot be mended (stuck)
+ *   16  read: there are more repairs than places_len
  *   10  read: a spare message column is 1
  *   11  read: the net bits are all 0
  *   12  read: a code that 4.3 of BSI TR-03137-2 does not define, or the stream ends inside one
@@ -80,7 +82,7 @@ typedef struct {
     uint64_t net;      /* Pn, the net bits */
     uint64_t work;     /* the least work_len of the other two calls */
     uint64_t gross;    /* Pg, the bits of a codeword */
-    uint64_t checks;   /* K, the checks */
+    uint64_t checks;   /* K, the checks: no read has more repairs, and so no more places */
 } jab_sizes_answer;
 
 /* The answer of jab_write. */
@@ -89,9 +91,9 @@ typedef struct {
     uint64_t place;
 } jab_write_answer;
 
-/* The answer of jab_read. On a refusal the length is 0. The three counts are given with 0 and with 9 to 14, and are 0 with 1 to 5 and 7. */
+/* The answer of jab_read. On a refusal the length is 0. The three counts are given with 0, 9 to 14 and 16, and are 0 with others. */
 typedef struct {
-    uint64_t number; /* 0 to 14, never 6 or 8 */
+    uint64_t number; /* 0 to 5, 7, 9 to 14, or 16 */
     uint64_t place;
     uint64_t length;   /* of the message, in bytes */
     uint64_t repairs;  /* never more than unmet */
@@ -109,13 +111,23 @@ void jab_sizes(const jab_params *params, const uint16_t *reserved, size_t reserv
 void jab_write(const jab_params *params, const uint16_t *reserved, size_t reserved_len, const uint8_t *message, size_t message_len,
                uint8_t *matrix, size_t matrix_len, uint8_t *work, size_t work_len, jab_write_answer *answer);
 
-/* Reads a sampled matrix into message.
+/* Reads a sampled matrix into message, and says which bits it turned.
  *
  * On 0 the first bytes of message, as many as the answer's length says, are the message and the others are as they came; on a
- * refusal all of message is as it came. Each repair turned one bit, the lowest-numbered in more unmet checks than met ones. work is
- * as in jab_write. */
+ * refusal all of message is as it came. work is as in jab_write.
+ *
+ * Each repair turned one bit of the word received, the lowest-numbered in more unmet checks than met ones. On 0 the first numbers of
+ * places, as many as the answer's repairs, are the places of these bits, in the order of repair: a place twice where a bit was turned
+ * twice. The others are as they came, and on a refusal, whichever it is, all of places is. A place is a bit's number in the word
+ * received, counted from 1: the word is the first Pg of the C bits, once mask and interleaving are undone. It is no module's index.
+ *
+ * places_len counts numbers, and no more than that are ever stored. Where a word that is mended has more repairs, the answer is 16,
+ * none is stored, and repairs says how many numbers a second call has to lend. As many numbers as jab_sizes says that there are checks
+ * are always enough, and so are as many as the answer's unmet. A caller who wants no places lends as many numbers as there are checks,
+ * and looks at none. With places_len 0 (places is not null then, either) each label that a repair mends is refused with 16. */
 void jab_read(const jab_params *params, const uint16_t *reserved, size_t reserved_len, const uint8_t *matrix, size_t matrix_len,
-              uint8_t *work, size_t work_len, uint8_t *message, size_t message_len, jab_read_answer *answer);
+              uint8_t *work, size_t work_len, uint8_t *message, size_t message_len, uint16_t *places, size_t places_len,
+              jab_read_answer *answer);
 
 #ifdef __cplusplus
 }

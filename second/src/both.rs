@@ -4,13 +4,14 @@ use crate::proved;
 use second::{Params, ReadAnswer, Refusal, Sizes};
 
 type SizesCall = fn(&Params, &[u16]) -> Result<Sizes, Refusal>;
-type BufferCall<Answer> = fn(&Params, &[u16], &[u8], &mut [u8], &mut [u8]) -> Answer;
+type WriteCall = fn(&Params, &[u16], &[u8], &mut [u8], &mut [u8]) -> Refusal;
+type ReadCall = fn(&Params, &[u16], &[u8], &mut [u8], &mut [u8], &mut [u16]) -> ReadAnswer;
 
 /// The three calls of one of them.
 pub struct Codec {
     pub sizes: SizesCall,
-    pub write: BufferCall<Refusal>,
-    pub read: BufferCall<ReadAnswer>,
+    pub write: WriteCall,
+    pub read: ReadCall,
 }
 
 pub const PROVED: Codec = Codec {

@@ -31,6 +31,15 @@ impl ReadAnswer {
             stuffing: 0,
         }
     }
+
+    /// How many numbers of its slice the read stored.
+    pub fn stored(&self) -> usize {
+        if self.number == 0 {
+            self.repairs
+        } else {
+            0
+        }
+    }
 }
 
 /// Tests 1 to 3, and the sizes of a symbol that passes them.
@@ -77,21 +86,28 @@ fn write_symbol(symbol: &Symbol, message: &[u8], matrix: &mut [u8]) -> Refusal {
     Refusal::NONE
 }
 
-/// Reads a sampled matrix. The message buffer is left alone on a refusal.
+/// Reads a sampled matrix, and stores the message and the places of the bits
+/// turned. Message buffer and slice are left alone on a refusal.
 pub fn read(
     p: &Params,
     list: &[u16],
     matrix: &[u8],
     work: &mut [u8],
     message: &mut [u8],
+    places: &mut [u16],
 ) -> ReadAnswer {
     match lawful(p, list, matrix.len(), work) {
-        Ok(symbol) => read_symbol(&symbol, matrix, message),
+        Ok(symbol) => read_symbol(&symbol, matrix, message, places),
         Err(refusal) => ReadAnswer::uncounted(refusal),
     }
 }
 
-fn read_symbol(symbol: &Symbol, matrix: &[u8], message: &mut [u8]) -> ReadAnswer {
+fn read_symbol(
+    symbol: &Symbol,
+    matrix: &[u8],
+    message: &mut [u8],
+    places: &mut [u16],
+) -> ReadAnswer {
     let colours = symbol.params().colours;
     if let Some(place) = matrix.iter().position(|&m| u32::from(m) >= colours) {
         return ReadAnswer::uncounted(Refusal { number: 7, place });
@@ -109,12 +125,27 @@ fn read_symbol(symbol: &Symbol, matrix: &[u8], message: &mut [u8]) -> ReadAnswer
         answer.number = 9;
         return answer;
     }
+    // only now is it known how many numbers the slice must hold
+    if answer.repairs > places.len() {
+        answer.number = 16;
+        return answer;
+    }
     let held = checks.eliminate().message(&word);
     match message_of(&held, symbol.lengths().net, message) {
-        Ok(length) => answer.length = length,
+        Ok(length) => {
+            answer.length = length;
+            store(mending.places(), places);
+        }
         Err(number) => answer.number = number,
     }
     answer
+}
+
+/// Stores places in the front of a slice that holds them all.
+fn store(found: impl Iterator<Item = u16>, places: &mut [u16]) {
+    for (room, place) in places.iter_mut().zip(found) {
+        *room = place;
+    }
 }
 
 /// From the bits of the message columns to the length of the message, which is

@@ -13,6 +13,14 @@ pub struct Mending {
     pub stuck: bool,
 }
 
+impl Mending {
+    /// The places of the bits turned, in the order of the steps. They count
+    /// from 1, and a word has at most 4,096 bits.
+    pub fn places(&self) -> impl Iterator<Item = u16> + '_ {
+        self.turned.iter().map(|&bit| bit as u16 + 1)
+    }
+}
+
 struct Mender {
     checks_of_bit: Vec<Vec<usize>>,
     bits_of_check: Vec<Vec<usize>>,
@@ -104,6 +112,7 @@ mod tests {
         let mending = mend(&[word("110"), word("101")], &mut received);
         assert_eq!(received, word("000"));
         assert!(!mending.stuck);
+        assert_eq!(mending.places().collect::<Vec<_>>(), [1]);
         assert_eq!((mending.unmet, mending.turned), (2, vec![0]));
     }
 

@@ -32,10 +32,11 @@ pub struct Sizes {
     pub checks: usize,
 }
 
-/// The number that wrong stuffing once had; no call gives it any more.
-pub const RETIRED: u32 = 8;
+/// The numbers that calls give. Wrong stuffing once had 8, and no other refusal
+/// gets that number; 15 belongs to a request that is not built.
+pub const GIVEN: [u32; 15] = [0, 1, 2, 3, 4, 5, 6, 7, 9, 10, 11, 12, 13, 14, 16];
 
-/// A number of document 01's list and its place; number 0 is no refusal.
+/// A number of the papers' lists and its place; number 0 is no refusal.
 #[derive(Clone, Copy, Debug, PartialEq, Eq)]
 pub struct Refusal {
     pub number: u32,

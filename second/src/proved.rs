@@ -36,6 +36,8 @@ extern "C" {
         work_len: usize,
         message: *mut u8,
         message_len: usize,
+        places: *mut u16,
+        places_len: usize,
         answer: *mut u64,
     );
 }
@@ -98,7 +100,7 @@ fn refusal(number: u64, place: u64) -> Refusal {
 }
 
 fn narrow(number: u64) -> u32 {
-    u32::try_from(number).expect("a number of document 01")
+    u32::try_from(number).expect("a number of the papers")
 }
 
 pub fn sizes(p: &Params, list: &[u16]) -> Result<Sizes, Refusal> {
@@ -156,9 +158,10 @@ pub fn read(
     matrix: &[u8],
     work: &mut [u8],
     message: &mut [u8],
+    places: &mut [u16],
 ) -> ReadAnswer {
-    // SAFETY: as in `sizes`; work and message are borrowed exclusively, so they
-    // overlap nothing.
+    // SAFETY: as in `sizes`; work, message and places are borrowed exclusively,
+    // so they overlap nothing.
     let [number, place, counts @ ..]: [u64; 6] = answer_of(p, |params, answer| unsafe {
         jab_read(
             params,
@@ -170,6 +173,8 @@ pub fn read(
             work.len(),
             message.as_mut_ptr(),
             message.len(),
+            places.as_mut_ptr(),
+            places.len(),
             answer,
         )
     });

@@ -2,39 +2,25 @@
 
 mod common;
 
-use common::{params, reserved_list};
-use second::{read, stream, write, Bits, Params, ReadAnswer, Refusal, Symbol};
-
-struct Lent {
-    params: Params,
-    list: Vec<u16>,
-    symbol: Symbol,
-}
+use common::{params, Lent};
+use second::{read, write, Bits, ReadAnswer, Refusal};
 
 fn lent() -> Lent {
-    let params = params();
-    let list = reserved_list(&params, 24);
-    let symbol = Symbol::new(&params, &list).unwrap();
-    Lent {
-        params,
-        list,
-        symbol,
-    }
+    common::lent(params(), 1_047)
 }
 
 impl Lent {
     fn matrix(&self, stream: &str) -> Vec<u8> {
-        let mut bits = Bits::new();
-        bits.push_text(stream);
-        let net = stream::with_end_mark(&bits, self.symbol.sizes().net);
-        self.symbol.matrix_of_message_columns(&net)
+        self.symbol.matrix_of_word(&self.codeword(stream))
     }
 
-    /// Reads into a buffer of three bytes and looks at what may not change.
+    /// Reads into a buffer of three bytes and looks at what may not change. No
+    /// word here has repairs, so the slice is empty.
     fn read(&self, matrix: &[u8]) -> ReadAnswer {
         let mut work = vec![165; self.symbol.sizes().work + 5];
         let mut message = [165; 3];
-        let answer = read(&self.params, &self.list, matrix, &mut work, &mut message);
+        let (params, list) = (&self.params, &self.list);
+        let answer = read(params, list, matrix, &mut work, &mut message, &mut []);
         assert!(work.iter().all(|&byte| byte == 0));
         assert!(message[answer.length..].iter().all(|&byte| byte == 165));
         answer
@@ -57,9 +43,11 @@ fn lengths_of_buffers() {
         let mut work = vec![165; work];
         let answer = write(&lent.params, &lent.list, b"a", &mut matrix, &mut work);
         assert_eq!(answer, Refusal::plain(number));
-        let answer = read(&lent.params, &lent.list, &matrix, &mut work, &mut []);
+        let (params, list, mut places) = (&lent.params, &lent.list, [42_405; 5]);
+        let answer = read(params, list, &matrix, &mut work, &mut [], &mut places);
         assert_eq!(answer.number, number);
         assert!(matrix.iter().chain(&work).all(|&byte| byte == 165));
+        assert_eq!(places, [42_405; 5]);
     }
 }
 

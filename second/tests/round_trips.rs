@@ -4,6 +4,7 @@ mod common;
 
 use common::{params, reserved_list, round_trip};
 use second::chance::Chance;
+use second::generator::interleaving;
 use second::geometry::Layout;
 use second::{read, stream, Params, Symbol};
 
@@ -111,7 +112,7 @@ fn the_greatest_symbol() {
 /// Turns each bit of a symbol alone. The three checks of a turned bit are unmet
 /// then; a lower bit that shares two of them is turned first, and the word may
 /// stick. A stuffing bit stands in no check: the message is read, and the bit
-/// is counted.
+/// is counted, but has no place.
 #[test]
 fn single_turned_bits() {
     let parameters = params();
@@ -123,15 +124,19 @@ fn single_turned_bits() {
     let done = second::write(&parameters, &list, message, &mut matrix, &mut work);
     assert_eq!(done.number, 0);
     let (mut mended, mut stuck, mut stuffing, mut other) = (0, 0, 0, 0);
-    for &index in symbol.data_modules() {
+    let sources = interleaving(1_047);
+    for (number, &index) in symbol.data_modules().iter().enumerate() {
         for bit in 0..3 {
+            // the first bit of a module is the highest
+            let place = sources[3 * number + 2 - bit] + 1;
             let mut damaged = matrix.clone();
             damaged[index] ^= 1 << bit;
-            let mut back = [0; 200];
-            let answer = read(&parameters, &list, &damaged, &mut work, &mut back);
+            let (mut back, mut places) = ([0; 200], [0; 348]);
+            let lent = (&mut work, &mut back, &mut places);
+            let answer = read(&parameters, &list, &damaged, lent.0, lent.1, lent.2);
             let is_message = &back[..answer.length] == message;
             match (answer.number, answer.repairs, answer.stuffing) {
-                (0, 1, 0) if is_message => mended += 1,
+                (0, 1, 0) if is_message && usize::from(places[0]) == place => mended += 1,
                 (0, 0, 1) if is_message && answer.unmet == 0 => stuffing += 1,
                 (9, _, 0) => stuck += 1,
                 _ => other += 1,

@@ -3,32 +3,12 @@
 
 mod common;
 
-use common::{params, reserved_list};
+use common::{lent, params, reserved_list, Lent};
 use second::chance::Chance;
-use second::geometry::Layout;
-use second::{read, stream, Bits, Params, ReadAnswer, Symbol};
+use second::{read, Bits, Params, ReadAnswer};
 
 /// What a writer sets behind the word, as far as there is room.
 const STUFFING: &str = "01010101";
-
-struct Lent {
-    params: Params,
-    list: Vec<u16>,
-    symbol: Symbol,
-}
-
-/// A symbol of so many bits.
-fn lent(params: Params, capacity: usize) -> Lent {
-    let free = Layout::with_patterns(&params).data_modules().len();
-    let list = reserved_list(&params, free - capacity / params.bits_per_module());
-    let symbol = Symbol::new(&params, &list).unwrap();
-    assert_eq!(symbol.lengths().capacity, capacity);
-    Lent {
-        params,
-        list,
-        symbol,
-    }
-}
 
 /// C 746 with 4 colours and wr 9, which leaves 8 stuffing bits.
 fn eight() -> Lent {
@@ -40,9 +20,12 @@ fn eight() -> Lent {
 }
 
 impl Lent {
+    /// Reads with a slice of K numbers, which is always long enough.
     fn read(&self, matrix: &[u8], message: &mut [u8]) -> ReadAnswer {
-        let mut work = vec![165; self.symbol.sizes().work];
-        read(&self.params, &self.list, matrix, &mut work, message)
+        let sizes = self.symbol.sizes();
+        let (mut work, mut places) = (vec![165; sizes.work], vec![0; sizes.checks]);
+        let (params, list) = (&self.params, &self.list);
+        read(params, list, matrix, &mut work, message, &mut places)
     }
 
     /// The matrix of a word and any bits behind it.
@@ -50,13 +33,6 @@ impl Lent {
         let mut sequence = word.clone();
         sequence.push_text(behind);
         self.symbol.matrix_of_sequence(&sequence)
-    }
-
-    fn codeword(&self, stream: &str) -> Bits {
-        let mut bits = Bits::new();
-        bits.push_text(stream);
-        let net = stream::with_end_mark(&bits, self.symbol.sizes().net);
-        self.symbol.systematic().codeword(&net)
     }
 
     /// A word for each answer that a read gives once it has passed 7.
@@ -149,7 +125,7 @@ fn nothing_is_counted_up_to_7() {
         (7, 440, &params, &list, &bad, work),
     ];
     for (number, place, params, list, matrix, work) in cases {
-        let answer = read(params, list, matrix, &mut vec![0; work], &mut []);
+        let answer = read(params, list, matrix, &mut vec![0; work], &mut [], &mut []);
         let expected = ReadAnswer {
             number,
             place,

@@ -13,11 +13,11 @@ _Static_assert(sizeof(jab_sizes_answer) == 9 * sizeof(uint64_t), "jab_sizes_answ
 _Static_assert(sizeof(jab_write_answer) == 2 * sizeof(uint64_t), "jab_write_answer");
 _Static_assert(sizeof(jab_read_answer) == 6 * sizeof(uint64_t), "jab_read_answer");
 
-enum { SIDE = 21, MODULES = SIDE * SIDE, MOST_WORK = 53964, ROOM = 120, FILL = 0xA5 };
+enum { SIDE = 21, MODULES = SIDE * SIDE, MOST_WORK = 53964, ROOM = 120, CHECKS = 348, FILL = 0xA5, NUMBER = 0xA5A5 };
 
-/* the buffers, with some bytes behind what is lent of them */
+/* the buffers, with some bytes or numbers behind what is lent of them */
 static uint8_t matrix[MODULES + 20], work[MOST_WORK + 100], message[ROOM + 20];
-static uint16_t list[3 * 64];
+static uint16_t list[3 * 64], places[CHECKS + 20];
 
 /* document 01's points P3 and P6: primary, version 1, 8 colours, wc 3, wr 9, with 24 entries: C 1,047 and 696 net bits */
 static const jab_params small = {.horizontal = 1, .vertical = 1, .colours = 8, .cyan = 3, .yellow = 6, .wc = 3, .wr = 9};
@@ -62,6 +62,14 @@ static int all(const uint8_t *bytes, size_t n, uint8_t b) {
     return 1;
 }
 
+/* whether the places from the nth on are as they came, those behind what is lent of them too */
+static int kept_places(size_t n) {
+    for (size_t i = n; i < sizeof places / sizeof *places; i++)
+        if (places[i] != NUMBER)
+            return 0;
+    return 1;
+}
+
 /* n entries of one colour from row 8 on; the patterns of version 1 lie in rows 2 to 6 and 16 to 20 */
 static void reserve(size_t n, uint16_t colour) {
     for (size_t i = 0; i < n; i++) {
@@ -86,7 +94,7 @@ static size_t work_bytes(const jab_params *params, size_t entries) {
 }
 
 /* A write and a read of legal input, each with a work buffer that comes dirty, is lent no byte more than it needs, and is all zero
- * afterwards. */
+ * afterwards. The read is lent so many numbers for places. */
 static jab_write_answer write_label(const jab_params *params, size_t entries, const uint8_t *bytes, size_t n) {
     jab_write_answer answer;
     size_t need = work_bytes(params, entries);
@@ -98,18 +106,27 @@ static jab_write_answer write_label(const jab_params *params, size_t entries, co
     return answer;
 }
 
-static jab_read_answer read_label(const jab_params *params, size_t entries, size_t room) {
+static jab_read_answer read_places(const jab_params *params, size_t entries, size_t room, size_t slots) {
     jab_read_answer answer;
     size_t need = work_bytes(params, entries);
     memset(work, FILL, sizeof work);
     memset(message, FILL, sizeof message);
-    jab_read(params, list, 3 * entries, matrix, MODULES, work, need, message, room, &answer);
+    memset(places, FILL, sizeof places);
+    jab_read(params, list, 3 * entries, matrix, MODULES, work, need, message, room, places, slots, &answer);
     must("the work buffer after a read", all(work, need, 0) && all(work + need, sizeof work - need, FILL));
     must("the bytes behind the message buffer", all(message + room, sizeof message - room, FILL));
     must("a message longer than its buffer", answer.length <= room);
     must("the message buffer behind the message, or on refusal",
          all(message + answer.length, room - answer.length, FILL) && (answer.number == 0 || answer.length == 0));
+    must("the places behind those of the repairs, or on refusal", kept_places(answer.number == 0 ? answer.repairs : 0));
+    for (size_t i = 0; answer.number == 0 && i < answer.repairs; i++)
+        must("a place outside the word", places[i] >= 1 && places[i] <= 1044);
     return answer;
+}
+
+/* the same with room for every place: this many are always enough */
+static jab_read_answer read_label(const jab_params *params, size_t entries, size_t room) {
+    return read_places(params, entries, room, CHECKS);
 }
 
 /* P3 and P6, document 01's 53,964 work bytes, and refusals without sizes */
@@ -156,9 +173,10 @@ static void round_trips(void) {
  * is mended has 1 repair, and one that is stuck 1 or 2. No two columns of this A stand in the same three checks, so the bit that is
  * turned and leaves none unmet is the damaged one, and the message the right one. That, and that 949 of the 1,044 are mended, was
  * computed by another program, which follows the library's definitions of A and of the rule, not its code; the second program, written
- * from the papers alone, gave 949, 95 and 3 too (second/tests/round_trips.rs). */
+ * from the papers alone, gave 949, 95 and 3 too (second/tests/round_trips.rs). Each bit has a place of its own in the word, so the
+ * places of the 949 are all different. */
 static void one_bit_turned(void) {
-    uint8_t bytes[80], clean[MODULES];
+    uint8_t bytes[80], clean[MODULES], seen[1045] = {0};
     unsigned stuffing = 0, mended = 0, stuck = 0;
     reserve(24, 7);
     label(bytes, sizeof bytes, 7);
@@ -183,6 +201,7 @@ static void one_bit_turned(void) {
                 expect_read("a module that holds no data", answer, (jab_read_answer){.length = sizeof bytes});
             } else {
                 expect_read("a bit turned and mended", answer, (jab_read_answer){.length = sizeof bytes, .repairs = 1, .unmet = 3});
+                must("a place that another bit has", seen[places[0]]++ == 0);
                 mended++;
             }
             must("the message of a damaged label", memcmp(message, bytes, sizeof bytes) == 0);
@@ -190,6 +209,25 @@ static void one_bit_turned(void) {
     }
     printf("c_interface: one bit turned: %u mended, %u stuck, %u read with a wrong stuffing bit\n", mended, stuck, stuffing);
     must("949 mended, 95 stuck, 3 stuffing", mended == 949 && stuck == 95 && stuffing == 3);
+}
+
+/* A label that was answered so with room for all places, read again with just as many, with one fewer, and with as many as checks were
+ * unmet at first: the same, but 16 in the place of 0 and of 10 to 14 where there is one too few. */
+static void fewer_places(jab_read_answer answer) {
+    uint16_t turned[CHECKS];
+    memcpy(turned, places, sizeof turned);
+    expect_read("just enough places", read_places(&small, 24, ROOM, answer.repairs), answer);
+    must("the same places", memcmp(turned, places, sizeof turned) == 0);
+    expect_read("as many places as unmet checks", read_places(&small, 24, ROOM, answer.unmet), answer);
+    must("the same places again", memcmp(turned, places, sizeof turned) == 0);
+    if (answer.repairs == 0)
+        return;
+    jab_read_answer expected = answer;
+    if (answer.number != 9) {
+        expected.number = 16;
+        expected.length = 0;
+    }
+    expect_read("one place too few", read_places(&small, 24, ROOM, answer.repairs - 1), expected);
 }
 
 /* Labels with up to 40 modules of another colour: whatever is answered, there are no more repairs than checks unmet at first, of 348
@@ -209,12 +247,13 @@ static void many_modules_turned(void) {
             matrix[(random >> 8) % MODULES] ^= 1 + (random >> 24) % 7;
         }
         jab_read_answer answer = read_label(&small, 24, ROOM);
-        must("0, or 9 to 14", answer.number == 0 || (answer.number >= 9 && answer.number <= 14));
+        must("0, or 9 to 14: all places have room", answer.number == 0 || (answer.number >= 9 && answer.number <= 14));
         must("a place", answer.place == 0);
         must("no more repairs than unmet checks", answer.repairs <= answer.unmet && answer.unmet <= 348);
         must("no more wrong stuffing bits than there are", answer.stuffing <= 3);
         stuffed += answer.stuffing != 0;
         numbers[answer.number]++;
+        fewer_places(answer);
     }
     printf("c_interface: up to 40 modules turned:");
     for (unsigned n = 0; n < 15; n++)
@@ -233,11 +272,12 @@ static void refused_early(const char *what, jab_params params, size_t numbers, s
     memset(work, FILL, sizeof work);
     memset(matrix, FILL, sizeof matrix);
     memset(message, FILL, sizeof message);
+    memset(places, FILL, sizeof places);
     jab_write(&params, list, numbers, bytes, sizeof bytes, matrix, modules, work, work_len, &written);
     expect_write(what, written, number, place);
-    jab_read(&params, list, numbers, matrix, modules, work, work_len, message, ROOM, &read);
+    jab_read(&params, list, numbers, matrix, modules, work, work_len, message, ROOM, places, CHECKS, &read);
     expect_read(what, read, (jab_read_answer){.number = number, .place = place});
-    must(what, all(work, sizeof work, FILL) && all(matrix, sizeof matrix, FILL) && all(message, sizeof message, FILL));
+    must(what, all(work, sizeof work, FILL) && all(matrix, sizeof matrix, FILL) && all(message, sizeof message, FILL) && kept_places(0));
 }
 
 /* 1 to 5 in both calls, the lower number where two apply */
@@ -258,7 +298,7 @@ static void early_refusals(void) {
     refused_early("a work buffer one byte short", small, 72, MODULES, MOST_WORK - 1, 5, 0);
 }
 
-/* 6, 7 and 14 at their limits */
+/* 6, 7, 14 and 16 at their limits */
 static void late_refusals(void) {
     uint8_t bytes[84];
     reserve(24, 7);
@@ -273,6 +313,22 @@ static void late_refusals(void) {
     expect_read("a message buffer one byte short", read_label(&small, 24, 82), (jab_read_answer){.number = 14});
     expect_read("a message buffer that just fits", read_label(&small, 24, 83), (jab_read_answer){.length = 83});
 
+    /* the first module whose last bit, turned, is mended by one repair */
+    uint8_t clean[MODULES];
+    memcpy(clean, matrix, MODULES);
+    jab_read_answer mended = {0};
+    for (size_t i = 0; i < MODULES && (mended.number != 0 || mended.repairs != 1); i++) {
+        memcpy(matrix, clean, MODULES);
+        matrix[i] ^= 1;
+        mended = read_label(&small, 24, ROOM);
+    }
+    expect_read("one repair and one place", read_places(&small, 24, 83, 1), (jab_read_answer){.length = 83, .repairs = 1, .unmet = 3});
+    expect_read("one repair and no place", read_places(&small, 24, 83, 0), (jab_read_answer){.number = 16, .repairs = 1, .unmet = 3});
+    expect_read("16 before 14", read_places(&small, 24, 82, 0), (jab_read_answer){.number = 16, .repairs = 1, .unmet = 3});
+    expect_read("14 leaves the places", read_places(&small, 24, 82, 1), (jab_read_answer){.number = 14, .repairs = 1, .unmet = 3});
+    memcpy(matrix, clean, MODULES);
+    expect_read("no repair and no place", read_places(&small, 24, 83, 0), (jab_read_answer){.length = 83});
+
     matrix[300] = 8;
     matrix[400] = 255;
     expect_read("a module of 8", read_label(&small, 24, ROOM), (jab_read_answer){.number = 7, .place = 300});
@@ -285,6 +341,6 @@ int main(void) {
     many_modules_turned();
     early_refusals();
     late_refusals();
-    printf("c_interface: 1 to 7 and 14 refused where document 01 has them\n");
+    printf("c_interface: 1 to 7, 14 and 16 refused where documents 01 and 02 have them\n");
     return 0;
 }

@@ -54,6 +54,13 @@ text = "".join("".join(map(str, matrix[r * columns:(r + 1) * columns])) + "\n" f
 assert text == open(sys.argv[3]).read(), text
 
 back = (ctypes.c_uint8 * 100)()
-assert call(jab.jab_read, ReadAnswer, params, reserved, matrix, work, back) == [0, 0, len(tray), 0, 0, 0]
+places = (ctypes.c_uint16 * sizes[8])()
+assert call(jab.jab_read, ReadAnswer, params, reserved, matrix, work, back, places) == [0, 0, len(tray), 0, 0, 0]
 assert bytes(back[:len(tray)]) == tray
+assert not any(places)
+
+# row 13, column 9 white: one wrong bit, whose place in the word the second program gave
+matrix[12 * columns + 8] = 7
+assert call(jab.jab_read, ReadAnswer, params, reserved, matrix, work, back, places) == [0, 0, len(tray), 1, 3, 0]
+assert places[0] == 381 and not any(places[1:]), list(places)
 print("c_interface: the same label written and read from Python")

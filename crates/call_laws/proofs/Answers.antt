@@ -10,7 +10,7 @@ use native.Mathlib.Omega.{arith}
 use lib.Dec.{eqb}
 use lib.ListN.{length, take, drop, replicate, length-replicate, length-take}
 use lib.Seq.{length-sets, sets-eq, take-at, drop-at}
-use borrow.Author.Tests.{ne-eqb, eqb-true, eqb-false, not-true}
+use borrow.Author.Tests.{ne-eqb, eqb-true, not-true}
 use Rattle.symbology.specs.declared.Params.{Params}
 use Rattle.symbology.specs.declared.Sizes.{Sizes}
 use Rattle.symbology.specs.Ranges.{allHold, has}
@@ -27,12 +27,12 @@ use Rattle.calls.specs.declared.Answer.{Answer}
 use Rattle.calls.specs.declared.Counts.{Counts}
 use Rattle.calls.specs.declared.ReadAnswer.{ReadAnswer}
 use Rattle.calls.specs.Answers.{answer, noCounts, counted, refused, done, countsIn}
-use Rattle.calls.specs.Tests.{Row, firstOf, stuckWord, sizeRows, frontRows, writeRows, earlyRows, streamRows, acceptedRows, isLegal}
-use Rattle.calls.specs.Tests.{reachesChecks}
+use Rattle.calls.specs.Tests.{Row, firstOf, stuckWord, shortPlaces, sizeRows, frontRows, writeRows, earlyRows, streamRows}
+use Rattle.calls.specs.Tests.{acceptedRows, receivedRows, isLegal, reachesChecks}
 use Rattle.calls.specs.Write.{writeAnswer, matrixAfterWrite, workAfter}
 use Rattle.calls.specs.Read.{messageInAccepted, messageIn, frontAfter, answerFromAccepted}
 use Rattle.calls.specs.Read.{countsOf, answerFromReceived, readAnswer, readRows}
-use Rattle.call_laws.proofs.Tests.{each-all, each-computed, each-map, numbersOf, first-append, first-map, first-keeps}
+use Rattle.call_laws.proofs.Tests.{each-all, each-computed, each-map, each-other, numbersOf, first-append, first-map, first-keeps}
 use Rattle.call_laws.proofs.Stages.{accepted-table, reaches-legal, read-keeps}
 
 -- ---- document 01, "Numbers returned"
@@ -43,32 +43,32 @@ pub write-numbers : (p : Params) (l stream : List ℕ) (modules work : ℕ)
 unfolding sizeRows frontRows writeRows
 write-numbers p l stream modules work = refl
 
--- The rows of a read, in document 01's order.
-pub read-numbers : (p : Params) (l matrix : List ℕ) (work room : ℕ)
-    → numbersOf (readRows p l matrix work room) ≡ (1 ∷ 2 ∷ 3 ∷ 4 ∷ 5 ∷ 7 ∷ 9 ∷ 10 ∷ 11 ∷ 12 ∷ 13 ∷ 14 ∷ [])
-unfolding sizeRows frontRows earlyRows streamRows acceptedRows readRows
-read-numbers p l matrix work room = refl
+-- The rows of a read, in document 01's order, with 16 after 9 and before 10 (document 02, W-205).
+pub read-numbers : (p : Params) (l matrix : List ℕ) (work room slots : ℕ)
+    → numbersOf (readRows p l matrix work room slots) ≡ (1 ∷ 2 ∷ 3 ∷ 4 ∷ 5 ∷ 7 ∷ 9 ∷ 16 ∷ 10 ∷ 11 ∷ 12 ∷ 13 ∷ 14 ∷ [])
+unfolding sizeRows frontRows earlyRows streamRows acceptedRows receivedRows readRows
+read-numbers p l matrix work room slots = refl
 
 -- number and place of an answer
 abbrev pub headOf : ReadAnswer → Answer
 headOf a = answer (a .number) (a .place)
 
 -- Number and place of a read are those of the first row whose test holds, and 0 where none does.
-pub read-table : (p : Params) (l matrix : List ℕ) (work room : ℕ)
-    → headOf (readAnswer p l matrix work room) ≡ firstOf answer (readRows p l matrix work room) (answer 0 0)
-unfolding readAnswer readRows answerFromReceived
-read-table p l matrix work room =
+pub read-table : (p : Params) (l matrix : List ℕ) (work room slots : ℕ)
+    → headOf (readAnswer p l matrix work room slots) ≡ firstOf answer (readRows p l matrix work room slots) (answer 0 0)
+unfolding readAnswer readRows receivedRows answerFromReceived
+read-table p l matrix work room slots =
     let s : Sizes = sizesFor p l in
     let w : List ℕ = receivedWord p l matrix in
     let c : Counts = countsOf p l matrix in
     let last : List ℕ = lastWord (checksFor s) w in
     let early : List Row = earlyRows p l matrix work in
-    let late : List Row = stuckWord s w ∷ acceptedRows s last room in
+    let mended : List Row = stuckWord s w ∷ shortPlaces s w slots ∷ [] in
+    let late : List Row = receivedRows s w room slots in
     let d : ReadAnswer = done c (length (messageInAccepted s last)) in
-    first-map refused headOf early (firstOf (counted c) (stuckWord s w ∷ []) (answerFromAccepted s last c room))
-    ∙ ap (λ (a : ReadAnswer). firstOf answer early (headOf (firstOf (counted c) (stuckWord s w ∷ []) a))) (accepted-table s last c room)
-    ∙ ap (λ (a : ReadAnswer). firstOf answer early (headOf a))
-    (sym (first-append (counted c) (stuckWord s w ∷ []) (acceptedRows s last room) d))
+    first-map refused headOf early (firstOf (counted c) mended (answerFromAccepted s last c room))
+    ∙ ap (λ (a : ReadAnswer). firstOf answer early (headOf (firstOf (counted c) mended a))) (accepted-table s last c room)
+    ∙ ap (λ (a : ReadAnswer). firstOf answer early (headOf a)) (sym (first-append (counted c) mended (acceptedRows s last room) d))
     ∙ ap (firstOf answer early) (first-map (counted c) headOf late d)
     ∙ sym (first-append answer early late (answer 0 0))
 
@@ -76,7 +76,7 @@ read-table p l matrix work room =
 
 -- the numbers that a read answers, and those before the checks
 abbrev pub readNumbers : List ℕ
-readNumbers = 0 ∷ 1 ∷ 2 ∷ 3 ∷ 4 ∷ 5 ∷ 7 ∷ 9 ∷ 10 ∷ 11 ∷ 12 ∷ 13 ∷ 14 ∷ []
+readNumbers = 0 ∷ 1 ∷ 2 ∷ 3 ∷ 4 ∷ 5 ∷ 7 ∷ 9 ∷ 10 ∷ 11 ∷ 12 ∷ 13 ∷ 14 ∷ 16 ∷ []
 
 abbrev pub earlyNumbers : List ℕ
 earlyNumbers = 1 ∷ 2 ∷ 3 ∷ 4 ∷ 5 ∷ 7 ∷ []
@@ -126,23 +126,21 @@ late-is c few r f =
       stuffing-most = few;
     }
 
--- A read answers 0 to 14 but not 6 and 8, its place is 0 but with 2 and 7, a refusal has length 0, with 1 to 7 the counts are 0, and at
--- most 8 stuffing bits are wrong.
-pub read-answer : (p : Params) (l matrix : List ℕ) (work room : ℕ) → ReadAnswerIs (readAnswer p l matrix work room)
-unfolding allHold has sizeRows frontRows earlyRows streamRows acceptedRows regular late
-read-answer p l matrix work room =
-    let s : Sizes = sizesFor p l in
-    let w : List ℕ = receivedWord p l matrix in
+-- A read answers 0 to 5, 7, 9 to 14 or 16; its place is 0 but with 2 and 7, a refusal has length 0, with 1 to 7 the counts are 0,
+-- and at most 8 stuffing bits are wrong.
+pub read-answer : (p : Params) (l matrix : List ℕ) (work room slots : ℕ) → ReadAnswerIs (readAnswer p l matrix work room slots)
+unfolding allHold has sizeRows frontRows earlyRows streamRows acceptedRows receivedRows regular late
+read-answer p l matrix work room slots =
     let c : Counts = countsOf p l matrix in
     let early : List Row = earlyRows p l matrix work in
-    let behind : List Row = stuckWord s w ∷ acceptedRows s (lastWord (checksFor s) w) room in
-    read-keeps p l matrix work room ReadAnswerIs
+    let behind : List Row = receivedRows (sizesFor p l) (receivedWord p l matrix) room slots in
+    read-keeps p l matrix work room slots ReadAnswerIs
     (each-map (λ r. regular r ≡ true) (λ r. r .test ≡ true → ReadAnswerIs (refused (r .number) (r .place))) (λ r f t. early-is r f) early
     (each-computed regular early refl))
     (λ e.
     each-map (λ r. late r ≡ true) (λ r. r .test ≡ true → ReadAnswerIs (counted c (r .number) (r .place)))
     (λ r f t. late-is c (few e) r f) behind (each-computed late behind refl))
-    (λ e fits. record {
+    (λ e enough fits. record {
       number-is = refl;
       place-is = λ other. refl;
       length-is = λ some. absurd (some refl);
@@ -153,46 +151,39 @@ read-answer p l matrix work room =
     few : reachesChecks p l matrix work ≡ true → wrongStuffing p l matrix ≤ 8
     few e = wrong-few p l matrix (reaches-legal p l matrix work e .symbol .in-range)
 
--- an answer of 0 is no row's
-never-zero : (Q : ReadAnswer → Type 0) (p : Params) (l matrix : List ℕ) (work room : ℕ)
+-- An answer of 0 is no row's: what 0 has where the places and the message fit, such an answer has.
+pub never-zero : (Q : ReadAnswer → Type 0) (p : Params) (l matrix : List ℕ) (work room slots : ℕ)
     → (let m = messageIn p l matrix in
-    length m ≤ room
+    countsOf p l matrix .repairs ≤ slots
+    → length m ≤ room
     → Q (done (countsOf p l matrix) (length m)))
-    → readAnswer p l matrix work room .number ≡ 0
-    → Q (readAnswer p l matrix work room)
-unfolding allHold sizeRows frontRows earlyRows streamRows acceptedRows messageIn
-never-zero Q p l matrix work room last =
-    let s : Sizes = sizesFor p l in
-    let w : List ℕ = receivedWord p l matrix in
-    let c : Counts = countsOf p l matrix in
-    let R : ReadAnswer → Type 0 = λ a. a .number ≡ 0 → Q a in
-    let some : Row → Bool = λ r. not (eqb (r .number) 0) in
-    let early : List Row = earlyRows p l matrix work in
-    let behind : List Row = stuckWord s w ∷ acceptedRows s (lastWord (checksFor s) w) room in
-    read-keeps p l matrix work room R
-    (each-map (λ r. some r ≡ true) (λ r. r .test ≡ true → R (refused (r .number) (r .place)))
-    (λ r f t z. absurd (eqb-false (r .number) 0 (not-true (eqb (r .number) 0) f) z)) early (each-computed some early refl))
+    → readAnswer p l matrix work room slots .number ≡ 0
+    → Q (readAnswer p l matrix work room slots)
+unfolding has sizeRows frontRows earlyRows streamRows acceptedRows receivedRows messageIn
+never-zero Q p l matrix work room slots last =
+    read-keeps p l matrix work room slots (λ (a : ReadAnswer). a .number ≡ 0 → Q a)
+    (each-other 0 (λ r. Q (refused (r .number) (r .place))) (earlyRows p l matrix work) refl)
     (λ e.
-    each-map (λ r. some r ≡ true) (λ r. r .test ≡ true → R (counted c (r .number) (r .place)))
-    (λ r f t z. absurd (eqb-false (r .number) 0 (not-true (eqb (r .number) 0) f) z)) behind (each-computed some behind refl))
-    (λ e fits z. last fits)
+    each-other 0 (λ r. Q (counted (countsOf p l matrix) (r .number) (r .place)))
+    (receivedRows (sizesFor p l) (receivedWord p l matrix) room slots) refl)
+    (λ e enough fits z. last enough fits)
 
 -- On 0 the length is the message's, and the message fits in its buffer.
-pub read-length : (p : Params) (l matrix : List ℕ) (work room : ℕ)
-    → readAnswer p l matrix work room .number ≡ 0
-    → (readAnswer p l matrix work room .length ≡ length (messageIn p l matrix)) × (length (messageIn p l matrix) ≤ room)
-read-length p l matrix work room =
+pub read-length : (p : Params) (l matrix : List ℕ) (work room slots : ℕ)
+    → readAnswer p l matrix work room slots .number ≡ 0
+    → (readAnswer p l matrix work room slots .length ≡ length (messageIn p l matrix)) × (length (messageIn p l matrix) ≤ room)
+read-length p l matrix work room slots =
     let m : ℕ = length (messageIn p l matrix) in
-    never-zero (λ (a : ReadAnswer). (a .length ≡ m) × (m ≤ room)) p l matrix work room (λ fits. (refl, fits))
+    never-zero (λ (a : ReadAnswer). (a .length ≡ m) × (m ≤ room)) p l matrix work room slots (λ enough fits. (refl, fits))
 
 -- Every answer's length fits in the message buffer.
-pub read-fits : (p : Params) (l matrix : List ℕ) (work room : ℕ) → readAnswer p l matrix work room .length ≤ room
-read-fits p l matrix work room =
+pub read-fits : (p : Params) (l matrix : List ℕ) (work room slots : ℕ) → readAnswer p l matrix work room slots .length ≤ room
+read-fits p l matrix work room slots =
     let Q : ReadAnswer → Type 0 = λ a. a .length ≤ room in
     let c : Counts = countsOf p l matrix in
-    read-keeps p l matrix work room Q (each-all (λ r. r .test ≡ true → Q (refused (r .number) (r .place))) (λ r t. omega arith) _)
+    read-keeps p l matrix work room slots Q (each-all (λ r. r .test ≡ true → Q (refused (r .number) (r .place))) (λ r t. omega arith) _)
     (λ e. each-all (λ r. r .test ≡ true → Q (counted c (r .number) (r .place))) (λ r t. omega arith) _)
-    (λ e fits. fits)
+    (λ e enough fits. fits)
 
 -- The message of any matrix has at most Pn bytes.
 pub message-few : (p : Params) (l matrix : List ℕ) → length (messageIn p l matrix) ≤ sizesFor p l .net
@@ -261,24 +252,30 @@ unfolding frontAfter
 length-front number stored before =
     by (eqb number 0) (λ e. rw e (length-sets before 0 stored)) (λ e. rw e refl)
 
+-- On 0 as many elements change as are stored, the first ones; the others are as they came.
+pub front-done : (number n : ℕ) (stored before : List ℕ)
+    → number ≡ 0
+    → (n ≡ length stored) × (length stored ≤ length before)
+    → let after = frontAfter number stored before in
+    (length after ≡ length before) × (take n after ≡ stored) × (drop n after ≡ drop n before)
+front-done number n stored before e long =
+    let end : List ℕ = drop (length stored) before in
+    let after : frontAfter number stored before ≡ stored ++ end =
+    ap (λ (k : ℕ). frontAfter k stored before) e ∙ done-front stored before (long .1) in (
+      length-front number stored before,
+      ap (λ (x : List ℕ). take n x) after ∙ take-at stored end n (sym (long .0)),
+      ap (λ (x : List ℕ). drop n x) after ∙ drop-at stored end n (sym (long .0)) ∙ ap (λ (k : ℕ). drop k before) (sym (long .0)),
+    )
+
 -- A read that is done changes as many bytes as its answer's length says, the first ones; the others are as they came.
-pub done-read : (p : Params) (l matrix before : List ℕ) (work : ℕ)
-    → let a = readAnswer p l matrix work (length before) in
+pub done-read : (p : Params) (l matrix before : List ℕ) (work slots : ℕ)
+    → let a = readAnswer p l matrix work (length before) slots in
     a .number ≡ 0
     → let after = frontAfter (a .number) (messageIn p l matrix) before in
     (length after ≡ length before) × (take (a .length) after ≡ messageIn p l matrix) × (drop (a .length) after ≡ drop (a .length) before)
-done-read p l matrix before work e =
-    let a : ReadAnswer = readAnswer p l matrix work (length before) in
-    let m : List ℕ = messageIn p l matrix in
-    let end : List ℕ = drop (length m) before in
-    let long : (a .length ≡ length m) × (length m ≤ length before) = read-length p l matrix work (length before) e in
-    let after : frontAfter (a .number) m before ≡ m ++ end = ap (λ (n : ℕ). frontAfter n m before) e ∙ done-front m before (long .1) in (
-      length-front (a .number) m before,
-      ap (λ (x : List ℕ). take (a .length) x) after ∙ take-at m end (a .length) (sym (long .0)),
-      ap (λ (x : List ℕ). drop (a .length) x) after
-          ∙ drop-at m end (a .length) (sym (long .0))
-          ∙ ap (λ (k : ℕ). drop k before) (sym (long .0)),
-    )
+done-read p l matrix before work slots e =
+    let a : ReadAnswer = readAnswer p l matrix work (length before) slots in
+    front-done (a .number) (a .length) (messageIn p l matrix) before e (read-length p l matrix work (length before) slots e)
 
 -- A call that passes test 5 leaves the work buffer all zero, its length as it was.
 pub work-cleared : (p : Params) (l work : List ℕ) (modules : ℕ)

@@ -12,7 +12,7 @@ use borrow.Author.Tests.{eqb-true, le-ltb, lt-ltb}
 use Rattle.symbology.specs.declared.Params.{Params}
 use Rattle.symbology.specs.declared.Sizes.{Sizes}
 use Rattle.symbology.specs.Capacity.{sizesFor}
-use Rattle.symbology.specs.Rule.{stuck, lastWord, unmetCount}
+use Rattle.symbology.specs.Rule.{unmetCount, repairsOf, placesOf, lastWord, stuck}
 use Rattle.symbology.specs.Codeword.{messageColumns}
 use Rattle.symbology.specs.Code.{matrixFor, checksFor, messageBitsFor}
 use Rattle.symbology.specs.Stream.{ReadsAs}
@@ -28,8 +28,8 @@ use Rattle.calls.specs.declared.Counts.{Counts}
 use Rattle.calls.specs.Answers.{answer, noCounts, done}
 use Rattle.calls.specs.Tests.{firstOf, passes, noRoom, frontRows, writeRows, earlyRows, isLegal, reachesChecks}
 use Rattle.calls.specs.Write.{writeAnswer, matrixAfterWrite}
-use Rattle.calls.specs.Read.{messageInAccepted, messageIn, frontAfter, answerFromAccepted, mendedCounts, answerFromReceived}
-use Rattle.calls.specs.Read.{receivedCounts, readAnswer}
+use Rattle.calls.specs.Read.{messageInAccepted, messageIn, placesIn, frontAfter, answerFromAccepted, mendedCounts}
+use Rattle.calls.specs.Read.{answerFromReceived, receivedCounts, readAnswer}
 use Rattle.call_laws.proofs.Tests.{Legal, legal, legal-is, pass-append, pass-front, first-append, first-hit}
 use Rattle.call_laws.proofs.Tests.{first-miss, first-none, first-passed, zero-passes, write-numbered}
 use Rattle.call_laws.proofs.Stages.{accepted-message, accepted-done, from-mended, reaches-gives}
@@ -70,6 +70,13 @@ module _ (p : Params) (l : List ℕ) {stream message : List ℕ} (k : LegalSymbo
   no-counts : mendedCounts sizes word (receivedCounts p l matrix) ≡ noCounts
   no-counts = rw (untouched checks word met, met, written-stuffing p l stream k (reads .are-bits)) refl
 
+  -- A written matrix has no place to store.
+  pub write-read-places : placesIn p l matrix ≡ []
+  unfolding placesIn placesOf
+  write-read-places =
+      ap (λ (w : List ℕ). placesOf (repairsOf checks w)) (written-word p l stream k (reads .are-bits))
+      ∙ ap placesOf (untouched checks word met)
+
   module _ (fits : length stream < sizes .net) where
     full : length (netOf p l stream) ≡ sizes .net
     full = length-net (sizes .net) stream fits
@@ -80,18 +87,19 @@ module _ (p : Params) (l : List ℕ) {stream message : List ℕ} (k : LegalSymbo
     holds : messageBitsFor sizes word ≡ netOf p l stream ++ replicate spare 0
     holds = symbol-message p l k (netOf p l stream) (written-bits p l stream k (reads .are-bits)) full
 
-    -- A written matrix, read with the same parameters and list, a work buffer that test 5 passes and a message buffer that is long
-    -- enough, gives 0 and the message's length, with no repair, no unmet check and no wrong stuffing bit.
-    pub write-read : (work room : ℕ)
+    -- A written matrix, read with the same parameters and list, a work buffer that test 5 passes, a message buffer that is long enough and
+    -- any slice for places, gives 0 and the message's length, with no repair, no unmet check and no wrong stuffing bit.
+    pub write-read : (work room slots : ℕ)
         → sizes .work ≤ work
         → length message ≤ room
-        → readAnswer p l matrix work room ≡ done noCounts (length message)
-    write-read work room enough long =
+        → readAnswer p l matrix work room slots ≡ done noCounts (length message)
+    write-read work room slots enough long =
         let got : Counts = receivedCounts p l matrix in
         let free : stuck checks word ≡ false = met-not-stuck checks word (ap (unmetCount checks) unturned ∙ met) in
-        reaches-gives p l matrix work room (written-reaches work enough)
-        ∙ ap (λ (w : List ℕ). answerFromReceived sizes w got room) (written-word p l stream k (reads .are-bits))
-        ∙ from-mended sizes word got room free
+        let none : length (repairsOf checks word) ≡ 0 = ap length (untouched checks word met) in
+        reaches-gives p l matrix work room slots (written-reaches work enough)
+        ∙ ap (λ (w : List ℕ). answerFromReceived sizes w got room slots) (written-word p l stream k (reads .are-bits))
+        ∙ from-mended sizes word got room slots free (omega arith)
         ∙ ap (λ (w : List ℕ). answerFromAccepted sizes w (mendedCounts sizes word got) room) unturned
         ∙ ap (λ (c : Counts). answerFromAccepted sizes word c room) no-counts
         ∙ accepted-done sizes word reads spare full holds noCounts room long
@@ -114,16 +122,18 @@ pub record WritesAndReads (p : Params) (l stream matrix : List ℕ) (work : ℕ)
   -- otherwise the matrix is the one that the papers define
   pub written : suc (length stream) ≤ sizesFor p l .net
       → (writeAnswer p l stream (length matrix) work ≡ answer 0 0) × (matrixAfterWrite p l stream work matrix ≡ writtenMatrix p l stream)
-  -- and a read of it gives back the message that the stream reads as, with no repair, no unmet check and no wrong stuffing bit
-  pub read-back : (message buffer : List ℕ) (readWork : ℕ)
+  -- and a read of it gives back the message that the stream reads as, with no repair, no unmet check and no wrong stuffing bit, and leaves
+  -- the slice for places as it came, however long it is
+  pub read-back : (message buffer places : List ℕ) (readWork : ℕ)
       → ReadsAs stream message
       → suc (length stream) ≤ sizesFor p l .net
       → sizesFor p l .work ≤ readWork
       → length message ≤ length buffer
       → let after = matrixAfterWrite p l stream work matrix in
-      let a = readAnswer p l after readWork (length buffer) in
+      let a = readAnswer p l after readWork (length buffer) (length places) in
       (a ≡ done noCounts (length message))
       × (frontAfter (a .number) (messageIn p l after) buffer ≡ message ++ drop (length message) buffer)
+      × (frontAfter (a .number) (placesIn p l after) places ≡ places)
 
 module _ (p : Params) (l stream matrix : List ℕ) (work : ℕ) (e : isLegal p l (length matrix) work ≡ true) where
   abbrev after : List ℕ
@@ -158,22 +168,24 @@ module _ (p : Params) (l stream matrix : List ℕ) (work : ℕ) (e : isLegal p l
       write-legal ∙ first-miss answer (noRoom p l stream) [] (answer 0 0) fails ∙ first-none answer (answer 0 0) in
       (zero-is, matrix-at (answer 0 0) zero-is)
 
-  read-written : (message buffer : List ℕ) (readWork : ℕ)
+  read-written : (message buffer places : List ℕ) (readWork : ℕ)
       → ReadsAs stream message
       → suc (length stream) ≤ sizesFor p l .net
       → sizesFor p l .work ≤ readWork
       → length message ≤ length buffer
-      → let a = readAnswer p l after readWork (length buffer) in
+      → let a = readAnswer p l after readWork (length buffer) (length places) in
       (a ≡ done noCounts (length message))
       × (frontAfter (a .number) (messageIn p l after) buffer ≡ message ++ drop (length message) buffer)
-  read-written message buffer readWork reads fits enough long =
+      × (frontAfter (a .number) (placesIn p l after) places ≡ places)
+  read-written message buffer places readWork reads fits enough long =
       let k : LegalSymbol p l = legal p l (length matrix) work e .symbol in
       let same : after ≡ writtenMatrix p l stream = write-done fits .1 in
-      let read : readAnswer p l after readWork (length buffer) ≡ done noCounts (length message) =
-      ap (λ (x : List ℕ). readAnswer p l x readWork (length buffer)) same
-      ∙ write-read p l k reads fits readWork (length buffer) enough long in
+      let read : readAnswer p l after readWork (length buffer) (length places) ≡ done noCounts (length message) =
+      ap (λ (x : List ℕ). readAnswer p l x readWork (length buffer) (length places)) same
+      ∙ write-read p l k reads fits readWork (length buffer) (length places) enough long in
       let found : messageIn p l after ≡ message = ap (messageIn p l) same ∙ write-read-bytes p l k reads fits in
-      (read, rw (read, found) (done-front message buffer long))
+      let none : placesIn p l after ≡ [] = ap (placesIn p l) same ∙ write-read-places p l k reads in
+      (read, rw (read, found) (done-front message buffer long), rw (read, none) (done-front [] places (omega arith)))
 
 -- For legal parameters, list and buffers a write is denied room exactly when the stream and its end mark exceed the net bits, else
 -- the matrix is the defined one, and a read of it gives back the message with no repair.

@@ -1,18 +1,18 @@
 -- What each stage of a read gives: from the net bits, from the accepted word, from the received word, from the matrix.
 -- Assumes nothing.
-use Prim.Native.Nat.{ℕ, _≤_}
+use Prim.Native.Nat.{ℕ, _≤_, _<_}
 use mathlib.Core.Path.{_≡_, refl, sym, ap, _∙_, subst⁻¹}
 use mathlib.Core.Bool.{Bool, true, false, cond, not}
 use mathlib.Core.List.{List, [], _∷_, _++_}
 use native.Mathlib.Omega.{arith}
 use lib.ListN.{length, take, drop, replicate}
 use lib.Seq.{take-at, drop-at}
-use borrow.Author.Tests.{ltb-false, le-ltb, not-true}
+use borrow.Author.Tests.{ltb-false, lt-ltb, le-ltb, not-true}
 use Rattle.symbology.specs.declared.Params.{Params}
 use Rattle.symbology.specs.declared.Sizes.{Sizes}
 use Rattle.symbology.specs.Ranges.{allHold, has}
 use Rattle.symbology.specs.Capacity.{sizesFor}
-use Rattle.symbology.specs.Rule.{lastWord, stuck}
+use Rattle.symbology.specs.Rule.{repairsOf, lastWord, stuck}
 use Rattle.symbology.specs.Code.{checksFor, messageBitsFor}
 use Rattle.symbology.specs.Stream.{Decoded, decode, ReadsAs}
 use Rattle.symbology.specs.Net.{withEndMark, streamIn}
@@ -23,9 +23,9 @@ use Rattle.laws.proofs.Net.{net-back, net-some, any-zeros}
 use Rattle.calls.specs.declared.Counts.{Counts}
 use Rattle.calls.specs.declared.StreamAnswer.{StreamAnswer}
 use Rattle.calls.specs.declared.ReadAnswer.{ReadAnswer}
-use Rattle.calls.specs.Answers.{counted, refused, done, fromStream, countsIn, streamRefused, streamDone}
-use Rattle.calls.specs.Tests.{Row, firstOf, passes, spareOne, stuckWord, sizeRows, frontRows}
-use Rattle.calls.specs.Tests.{earlyRows, streamRows, acceptedRows, isLegal, reachesChecks}
+use Rattle.calls.specs.Answers.{noCounts, counted, refused, done, fromStream, countsIn, streamRefused, streamDone}
+use Rattle.calls.specs.Tests.{Row, firstOf, passes, spareOne, stuckWord, shortPlaces, sizeRows, frontRows}
+use Rattle.calls.specs.Tests.{earlyRows, streamRows, acceptedRows, receivedRows, isLegal, reachesChecks}
 use Rattle.calls.specs.Read.{messageInNet, messageInAccepted, streamAnswer, answerFromAccepted, mendedCounts, answerFromReceived}
 use Rattle.calls.specs.Read.{receivedCounts, readAnswer, countsOf}
 use Rattle.call_laws.proofs.Tests.{Each, each-all, each-computed, each-map, each-listed, numbersOf}
@@ -139,35 +139,53 @@ accepted-keeps Q s w c room each last =
 
 -- ---- from the received word
 
-module _ (s : Sizes) (w : List ℕ) (got : Counts) (room : ℕ) where
-  -- the word that the rule ends with, and the counts then
+module _ (s : Sizes) (w : List ℕ) (got : Counts) (room slots : ℕ) where
+  -- the word that the rule ends with, the counts then, and the answer from that word
   abbrev last : List ℕ
   last = lastWord (checksFor s) w
 
   abbrev counts : Counts
   counts = mendedCounts s w got
 
+  abbrev onward : ReadAnswer
+  onward = answerFromAccepted s last counts room
+
   -- the rule ends with a check unmet
-  pub from-stuck : stuck (checksFor s) w ≡ true → answerFromReceived s w got room ≡ counted counts 9 0
+  pub from-stuck : stuck (checksFor s) w ≡ true → answerFromReceived s w got room slots ≡ counted counts 9 0
   unfolding answerFromReceived
-  from-stuck e = first-hit (counted counts) (stuckWord s w) [] (answerFromAccepted s last counts room) e
+  from-stuck e = first-hit (counted counts) (stuckWord s w) (shortPlaces s w slots ∷ []) onward e
 
-  -- it ends with none
-  pub from-mended : stuck (checksFor s) w ≡ false → answerFromReceived s w got room ≡ answerFromAccepted s last counts room
+  -- it ends with none, and there are more repairs than places may be stored
+  pub from-short : stuck (checksFor s) w ≡ false
+      → slots < length (repairsOf (checksFor s) w)
+      → answerFromReceived s w got room slots ≡ counted counts 16 0
   unfolding answerFromReceived
-  from-mended e =
-      let onward : ReadAnswer = answerFromAccepted s last counts room in
-      first-miss (counted counts) (stuckWord s w) [] onward e ∙ first-none (counted counts) onward
+  from-short e more =
+      let holds : shortPlaces s w slots .test ≡ true = lt-ltb slots (length (repairsOf (checksFor s) w)) more in
+      first-miss (counted counts) (stuckWord s w) (shortPlaces s w slots ∷ []) onward e
+      ∙ first-hit (counted counts) (shortPlaces s w slots) [] onward holds
 
-  -- What each row's answer has, and 0 where the message fits, the answer has.
+  -- it ends with none, and there are no more
+  pub from-mended : stuck (checksFor s) w ≡ false
+      → length (repairsOf (checksFor s) w) ≤ slots
+      → answerFromReceived s w got room slots ≡ answerFromAccepted s last counts room
+  unfolding answerFromReceived
+  from-mended e few =
+      let fails : shortPlaces s w slots .test ≡ false = le-ltb slots (length (repairsOf (checksFor s) w)) few in
+      first-miss (counted counts) (stuckWord s w) (shortPlaces s w slots ∷ []) onward e
+      ∙ first-miss (counted counts) (shortPlaces s w slots) [] onward fails
+      ∙ first-none (counted counts) onward
+
+  -- What each row's answer has, and 0 where the places and the message fit, the answer has.
   pub received-keeps : (Q : ReadAnswer → Type 0)
-      → Each (λ r. r .test ≡ true → Q (counted counts (r .number) (r .place))) (stuckWord s w ∷ acceptedRows s last room)
-      → (length (messageInAccepted s last) ≤ room → Q (done counts (length (messageInAccepted s last))))
-      → Q (answerFromReceived s w got room)
-  unfolding answerFromReceived Each
+      → Each (λ r. r .test ≡ true → Q (counted counts (r .number) (r .place))) (receivedRows s w room slots)
+      → (counts .repairs ≤ slots → length (messageInAccepted s last) ≤ room → Q (done counts (length (messageInAccepted s last))))
+      → Q (answerFromReceived s w got room slots)
+  unfolding answerFromReceived receivedRows Each
   received-keeps Q each fits =
-      first-keeps (counted counts) Q (stuckWord s w ∷ []) (answerFromAccepted s last counts room) (each .0, tt)
-      (λ e. accepted-keeps Q s last counts room (each .1) fits)
+      let rows : List Row = stuckWord s w ∷ shortPlaces s w slots ∷ [] in
+      first-keeps (counted counts) Q rows onward (each .0, (each .1 .0, tt))
+      (λ e. accepted-keeps Q s last counts room (each .1 .1) (fits (ltb-false slots (counts .repairs) (pass-fails rows e .1 .0))))
 
 -- ---- from the matrix
 
@@ -188,71 +206,76 @@ module _ (p : Params) (l matrix : List ℕ) (work : ℕ) where
   reaches-legal e = legal p l (length matrix) work (pass-front (frontRows p l (length matrix) work) _ e)
 
   -- Its answer is the one from its received word.
-  pub reaches-gives : (room : ℕ)
+  pub reaches-gives : (room slots : ℕ)
       → reachesChecks p l matrix work ≡ true
-      → readAnswer p l matrix work room ≡ answerFromReceived sizes word got room
+      → readAnswer p l matrix work room slots ≡ answerFromReceived sizes word got room slots
   unfolding reachesChecks readAnswer
-  reaches-gives room e = first-passed refused (earlyRows p l matrix work) (answerFromReceived sizes word got room) e
+  reaches-gives room slots e = first-passed refused (earlyRows p l matrix work) (answerFromReceived sizes word got room slots) e
 
-  module _ (room : ℕ) where
-    -- What each row's answer has, with the counts 0 before the checks and the matrix's behind, and 0 where the message fits, every answer
-    -- of a read has. The rows behind the checks are asked of a read that reaches them.
+  module _ (room slots : ℕ) where
+    -- What each row's answer has, with the counts 0 before the checks and the matrix's behind, and 0 where the places and the message fit,
+    -- every answer of a read has. The rows behind the checks are asked of a read that reaches them.
     pub read-keeps : (Q : ReadAnswer → Type 0)
         → Each (λ r. r .test ≡ true → Q (refused (r .number) (r .place))) (earlyRows p l matrix work)
         → (reachesChecks p l matrix work ≡ true
-        → Each (λ r. r .test ≡ true → Q (counted (countsOf p l matrix) (r .number) (r .place)))
-        (stuckWord sizes word ∷ acceptedRows sizes (lastWord (checksFor sizes) word) room))
+        → Each (λ r. r .test ≡ true → Q (counted (countsOf p l matrix) (r .number) (r .place))) (receivedRows sizes word room slots))
         → (reachesChecks p l matrix work ≡ true
         → let m = messageInAccepted sizes (lastWord (checksFor sizes) word) in
-        length m ≤ room
+        countsOf p l matrix .repairs ≤ slots
+        → length m ≤ room
         → Q (done (countsOf p l matrix) (length m)))
-        → Q (readAnswer p l matrix work room)
+        → Q (readAnswer p l matrix work room slots)
     unfolding reachesChecks readAnswer
     read-keeps Q early late fits =
-        first-keeps refused Q (earlyRows p l matrix work) (answerFromReceived sizes word got room) early
-        (λ e. received-keeps sizes word got room Q (late e) (fits e))
+        first-keeps refused Q (earlyRows p l matrix work) (answerFromReceived sizes word got room slots) early
+        (λ e. received-keeps sizes word got room slots Q (late e) (fits e))
 
     -- ---- reaching the checks
 
     -- A read whose answer is none of the numbers before 9 has reached the checks.
-    pub reaches-when : has (readAnswer p l matrix work room .number) (1 ∷ 2 ∷ 3 ∷ 4 ∷ 5 ∷ 7 ∷ []) ≡ false
+    pub reaches-when : has (readAnswer p l matrix work room slots .number) (1 ∷ 2 ∷ 3 ∷ 4 ∷ 5 ∷ 7 ∷ []) ≡ false
         → reachesChecks p l matrix work ≡ true
     unfolding reachesChecks readAnswer sizeRows frontRows earlyRows
     reaches-when =
         let rs : List Row = earlyRows p l matrix work in
         let Q : ReadAnswer → Type 0 = λ a. has (a .number) (numbersOf rs) ≡ false → passes rs ≡ true in
-        first-keeps refused Q rs (answerFromReceived sizes word got room)
+        first-keeps refused Q rs (answerFromReceived sizes word got room slots)
         (each-map (λ r. has (r .number) (numbersOf rs) ≡ true) (λ r. r .test ≡ true → Q (refused (r .number) (r .place)))
         (λ r listed t other. clash listed other) rs (each-listed rs)) (λ e other. e)
 
     -- The answer of a read that reaches the checks is none of them.
     pub reaches-only : reachesChecks p l matrix work ≡ true
-        → has (readAnswer p l matrix work room .number) (1 ∷ 2 ∷ 3 ∷ 4 ∷ 5 ∷ 7 ∷ []) ≡ false
-    unfolding allHold streamRows acceptedRows has
+        → has (readAnswer p l matrix work room slots .number) (1 ∷ 2 ∷ 3 ∷ 4 ∷ 5 ∷ 7 ∷ []) ≡ false
+    unfolding allHold streamRows acceptedRows receivedRows has
     reaches-only e =
         let Q : ReadAnswer → Type 0 = λ a. has (a .number) (1 ∷ 2 ∷ 3 ∷ 4 ∷ 5 ∷ 7 ∷ []) ≡ false in
-        let late : List Row = stuckWord sizes word ∷ acceptedRows sizes (lastWord (checksFor sizes) word) room in
+        let late : List Row = receivedRows sizes word room slots in
         let other : Row → Bool = λ r. not (has (r .number) (1 ∷ 2 ∷ 3 ∷ 4 ∷ 5 ∷ 7 ∷ [])) in
-        subst⁻¹ Q (reaches-gives room e)
-        (received-keeps sizes word got room Q
+        subst⁻¹ Q (reaches-gives room slots e)
+        (received-keeps sizes word got room slots Q
         (each-map (λ r. other r ≡ true) (λ r. r .test ≡ true → Q (counted (countsOf p l matrix) (r .number) (r .place)))
-        (λ r f t. not-true (has (r .number) (1 ∷ 2 ∷ 3 ∷ 4 ∷ 5 ∷ 7 ∷ [])) f) late (each-computed other late refl)) (λ fits. refl))
+        (λ r f t. not-true (has (r .number) (1 ∷ 2 ∷ 3 ∷ 4 ∷ 5 ∷ 7 ∷ [])) f) late (each-computed other late refl)) (λ few fits. refl))
 
     -- ---- the counts
 
     -- A read that reaches the checks has the counts of its matrix, whatever it answers.
-    pub reaches-counts : reachesChecks p l matrix work ≡ true → countsIn (readAnswer p l matrix work room) ≡ countsOf p l matrix
+    pub reaches-counts : reachesChecks p l matrix work ≡ true → countsIn (readAnswer p l matrix work room slots) ≡ countsOf p l matrix
     reaches-counts e =
         let Q : ReadAnswer → Type 0 = λ a. countsIn a ≡ countsOf p l matrix in
-        subst⁻¹ Q (reaches-gives room e)
-        (received-keeps sizes word got room Q
-        (each-all (λ r. r .test ≡ true → Q (counted (countsOf p l matrix) (r .number) (r .place))) (λ r t. refl) _) (λ fits. refl))
+        subst⁻¹ Q (reaches-gives room slots e)
+        (received-keeps sizes word got room slots Q
+        (each-all (λ r. r .test ≡ true → Q (counted (countsOf p l matrix) (r .number) (r .place))) (λ r t. refl) _) (λ few fits. refl))
 
-    -- Document 02, W-202: the wrong stuffing bits are counted in the answer of every read that passes 7, and 0 stands in others.
-    pub read-stuffing : readAnswer p l matrix work room .stuffing ≡ cond (reachesChecks p l matrix work) (wrongStuffing p l matrix) 0
-    read-stuffing =
-        by (reachesChecks p l matrix work) (λ e. rw e (ap (λ (c : Counts). c .stuffing) (reaches-counts e)))
+    -- The counts of a read are its matrix's where it reaches the checks, and else 0: the room for message and places changes none.
+    pub read-counts : countsIn (readAnswer p l matrix work room slots) ≡ cond (reachesChecks p l matrix work) (countsOf p l matrix) noCounts
+    read-counts =
+        by (reachesChecks p l matrix work) (λ e. rw e (reaches-counts e))
         (λ e.
-        let Q : ReadAnswer → Type 0 = λ a. a .stuffing ≡ 0 in
+        let Q : ReadAnswer → Type 0 = λ a. countsIn a ≡ noCounts in
         let early = each-all (λ r. r .test ≡ true → Q (refused (r .number) (r .place))) (λ r t. refl) (earlyRows p l matrix work) in
         rw e (read-keeps Q early (λ t. clash t e) (λ t. clash t e)))
+
+    -- Document 02, W-202: the wrong stuffing bits are counted in the answer of every read that passes 7, and 0 stands in others.
+    pub read-stuffing : readAnswer p l matrix work room slots .stuffing ≡ cond (reachesChecks p l matrix work) (wrongStuffing p l matrix) 0
+    read-stuffing =
+        ap (λ (c : Counts). c .stuffing) read-counts ∙ by (reachesChecks p l matrix work) (λ e. rw e refl) (λ e. rw e refl)

@@ -10,7 +10,7 @@ use native.Mathlib.Omega.{arith}
 use native.Mathlib.Decide.{decLt}
 use lib.Dec.{eqb, ltb}
 use lib.ListN.{length, getD}
-use borrow.Author.Tests.{ltb-false, eqb-true, not-true, not-false, le-ltb, eq-eqb}
+use borrow.Author.Tests.{ltb-false, eqb-true, eqb-false, not-true, not-false, le-ltb, eq-eqb}
 use Rattle.symbology.specs.declared.Params.{Params}
 use Rattle.symbology.specs.declared.Sizes.{Sizes}
 use Rattle.symbology.specs.declared.ListVerdict.{ListVerdict}
@@ -70,6 +70,18 @@ each-computed f [] e = tt
 each-computed f (r ∷ rs) e =
     let others : Bool = allHold (map f rs) in
     (and-left (f r) others e, each-computed f rs (and-right (f r) others e))
+
+-- where no row has the number n, whatever is said of the rows that have it
+pub each-other : (n : ℕ) (Q : Row → Type 0) (rs : List Row)
+    → has n (numbersOf rs) ≡ false
+    → Each (λ r. r .test ≡ true → r .number ≡ n → Q r) rs
+unfolding Each has
+each-other n Q [] e = tt
+each-other n Q (r ∷ rs) e =
+    let others : Bool = has n (numbersOf rs) in (
+      λ t z. absurd (eqb-false n (r .number) (or-left (eqb n (r .number)) others e) (sym z)),
+      each-other n Q rs (or-right (eqb n (r .number)) others e),
+    )
 
 -- the row's test fails
 abbrev pub Fails : Row → Type 0

@@ -16,7 +16,7 @@ use Rattle.symbology.specs.Reserved.{listVerdict, entryVerdict, listNumber, lis
 use Rattle.symbology.specs.Capacity.{bitsPerModule, patternModules, dataModules, asBits, capacity, sizesOf}
 use Rattle.symbology.specs.Place.{scaled, rawPlace, placeOf}
 use Rattle.symbology.specs.Rule.{bitSum, unmet, unmetCount, unmetAt, metAt, isSuspect, suspect}
-use Rattle.symbology.specs.Rule.{turned, ends, repairs, afterTurns, repairsOf, lastWord, stuck}
+use Rattle.symbology.specs.Rule.{turned, ends, repairs, afterTurns, repairsOf, placesOf, lastWord, stuck}
 use Rattle.symbology.specs.Stream.{readCode, readCodes, decode, byteRuns, byteStream, byteBits, runCount, byteRun, streamOf}
 use Rattle.symbology.specs.Net.{upToLastOne, streamIn, stuffing, exceeds, withEndMark}
 use Rattle.symbology.proofs.Parameters.{paramsOf}
@@ -42,7 +42,7 @@ symbol version colours wc wr = rectangle version version colours wc wr
 -- the numbers that a write of the empty message and a read answer, with no list and empty buffers
 abbrev answered : ℕ → ℕ → List ℕ
 answered h v =
-    writeAnswer (rectangle h v 8 4 9) [] (streamOf []) 0 0 .number ∷ readAnswer (rectangle h v 8 4 9) [] [] 0 0 .number ∷ []
+    writeAnswer (rectangle h v 8 4 9) [] (streamOf []) 0 0 .number ∷ readAnswer (rectangle h v 8 4 9) [] [] 0 0 0 .number ∷ []
 
 -- 24 entries, in the rows 1 and 21 of side-version 1, where no pattern lies
 abbrev entries24 : List ℕ
@@ -120,6 +120,8 @@ points =
     ∷ eqb (length (repairsOf checks10 word10)) 1
     ∷ same (lastWord checks10 word10) (0 ∷ 0 ∷ 0 ∷ [])
     ∷ not (stuck checks10 word10)
+    -- and the bit turned is the first (document 02, W-205)
+    ∷ same (placesOf (repairsOf checks10 word10)) (1 ∷ [])
     -- P11
     ∷ eqb (unmetCount checks11 word11) 2
     ∷ eqb (length (repairsOf checks11 word11)) 0
@@ -136,8 +138,8 @@ points =
 pub all-points : T (allHold points)
 unfolding allHold lowest tabulate has value bits anyOne rangeTests inRange coreTable coresOf innerPatterns listVerdict entryVerdict
     listNumber listPlace bitsPerModule patternModules dataModules asBits capacity sizesOf scaled rawPlace placeOf mul div ofInt toUnsigned
-    bitSum unmet unmetCount unmetAt metAt isSuspect suspect turned ends repairs afterTurns repairsOf lastWord stuck readCode readCodes
-    decode byteRuns byteStream upToLastOne streamIn stuffing streamOf same firstOf sizeRows frontRows writeRows earlyRows streamRows
-    writeAnswer streamAnswer readAnswer joinFrom nearCore finder patternOf inSquares colourIn meeting patternAt covered patternColour
-    entryAt firstEntry badEntry badAt withEndMark byteBits runCount byteRun
+    bitSum unmet unmetCount unmetAt metAt isSuspect suspect turned ends repairs afterTurns repairsOf placesOf lastWord stuck readCode
+    readCodes decode byteRuns byteStream upToLastOne streamIn stuffing streamOf same firstOf sizeRows frontRows writeRows earlyRows
+    streamRows writeAnswer streamAnswer readAnswer joinFrom nearCore finder patternOf inSquares colourIn meeting patternAt covered
+    patternColour entryAt firstEntry badEntry badAt withEndMark byteBits runCount byteRun
 all-points = tt

@@ -16,7 +16,7 @@ use Rattle.calls.specs.declared.ReadAnswer.{ReadAnswer}
 use Rattle.calls.specs.Answers.{noCounts, refused, done}
 use Rattle.calls.specs.Tests.{isLegal, reachesChecks}
 use Rattle.calls.specs.Write.{writeAnswer, matrixAfterWrite, workAfter}
-use Rattle.calls.specs.Read.{readAnswer, messageIn, frontAfter}
+use Rattle.calls.specs.Read.{readAnswer, messageIn, placesIn, frontAfter}
 use Rattle.calls.specs.Mending.{Mends}
 
 -- a write of a stream
@@ -26,21 +26,22 @@ pub record Writes (p : Params) (l stream matrix work : List ℕ) (a : Answer) (m
   pub work-is : work′ ≡ workAfter p l (length matrix) work
 
 -- a read, which mends by the rule where it reaches the checks
-pub record Reads (p : Params) (l matrix work message : List ℕ) (a : ReadAnswer) (work′ message′ : List ℕ) : Type 0 where
-  pub answer-is : a ≡ readAnswer p l matrix (length work) (length message)
+pub record Reads (p : Params) (l matrix work message places : List ℕ) (a : ReadAnswer) (work′ message′ places′ : List ℕ) : Type 0 where
+  pub answer-is : a ≡ readAnswer p l matrix (length work) (length message) (length places)
   pub message-is : message′ ≡ frontAfter (a .number) (messageIn p l matrix) message
+  pub places-are : places′ ≡ frontAfter (a .number) (placesIn p l matrix) places
   pub work-is : work′ ≡ workAfter p l (length matrix) work
   -- demand 3
-  pub mends : reachesChecks p l matrix (length work) ≡ true → Mends p l matrix message a message′
+  pub mends : reachesChecks p l matrix (length work) ≡ true → Mends p l matrix message places a message′ places′
 
 -- ---- a write and a read of what was written, with the same parameters, list and work buffer
 
--- The answer, for a work buffer and a message buffer of these lengths: that of the read, and where the write is refused its number and
--- place.
+-- The answer, for a work buffer and a message buffer of these lengths: that of the read, which stores no places, and where the write is
+-- refused its number and place.
 unfoldable pub answerReadBack : Params → List ℕ → List ℕ → List ℕ → ℕ → ℕ → ReadAnswer
 answerReadBack p l stream matrix work room =
     let a = writeAnswer p l stream (length matrix) work in
-    cond (eqb (a .number) 0) (readAnswer p l (matrixAfterWrite p l stream work matrix) work room) (refused (a .number) (a .place))
+    cond (eqb (a .number) 0) (readAnswer p l (matrixAfterWrite p l stream work matrix) work room 0) (refused (a .number) (a .place))
 
 -- Demand 2 about a call with legal parameters, list and buffers: `matrix` and `back` came, and `written` and `after` are what it left.
 pub record ReadsBack (p : Params) (l message matrix back : List ℕ) (a : ReadAnswer) (written after : List ℕ) : Type 0 where

@@ -1,6 +1,7 @@
--- The whole read: its answer, and the message buffer at exit (the work buffer is that of a write). It goes in stages, each a function of
--- what the stage before hands on: the tests up to the checks, the received word, the accepted word, the net bits. The counts are handed
--- on with it, as one value, and each stage sets its own. `room` is the length that a message may have.
+-- The whole read: its answer, and the message buffer and the places at exit (the work buffer is that of a write). It goes in stages, each
+-- a function of what the stage before hands on: the tests up to the checks, the received word, the accepted word, the net bits. The counts
+-- are handed on with it, as one value, and each stage sets its own. `room` is the length that a message may have, and `slots` how many
+-- places may be stored.
 -- Assumes nothing.
 use Prim.Native.Nat.{ℕ}
 use mathlib.Core.Bool.{cond}
@@ -11,7 +12,7 @@ use lib.Dec.{eqb}
 use Rattle.symbology.specs.declared.Params.{Params}
 use Rattle.symbology.specs.declared.Sizes.{Sizes}
 use Rattle.symbology.specs.Capacity.{sizesFor}
-use Rattle.symbology.specs.Rule.{unmetCount, repairsOf, lastWord}
+use Rattle.symbology.specs.Rule.{unmetCount, repairsOf, placesOf, lastWord}
 use Rattle.symbology.specs.Code.{checksFor, messageBitsFor}
 use Rattle.symbology.specs.Stream.{decode}
 use Rattle.symbology.specs.Net.{streamIn}
@@ -20,9 +21,9 @@ use Rattle.calls.specs.declared.Counts.{Counts}
 use Rattle.calls.specs.declared.StreamAnswer.{StreamAnswer}
 use Rattle.calls.specs.declared.ReadAnswer.{ReadAnswer}
 use Rattle.calls.specs.Answers.{streamRefused, streamDone, counted, refused, fromStream}
-use Rattle.calls.specs.Tests.{Row, firstOf, spareOne, stuckWord, streamRows, acceptedRows, earlyRows}
+use Rattle.calls.specs.Tests.{Row, firstOf, stuckWord, shortPlaces, spareOne, earlyRows, streamRows, receivedRows}
 
--- ---- the message
+-- ---- the message and the places
 
 -- the bytes that net bits give
 abbrev pub messageInNet : List ℕ → List ℕ
@@ -37,6 +38,11 @@ unfoldable pub messageIn : Params → List ℕ → List ℕ → List ℕ
 messageIn p l matrix =
     let s = sizesFor p l in
     messageInAccepted s (lastWord (checksFor s) (receivedWord p l matrix))
+
+-- the places of the bits that the rule turns in the word of a sampled matrix, in the order of repair. A read that is refused stores none
+-- of them.
+unfoldable pub placesIn : Params → List ℕ → List ℕ → List ℕ
+placesIn p l matrix = placesOf (repairsOf (checksFor (sizesFor p l)) (receivedWord p l matrix))
 
 -- A lent buffer after a call that answers this number: on 0 what is stored stands over its front, as far as it reaches, else it is as it
 -- came.
@@ -61,29 +67,27 @@ mendedCounts s w got =
     let cs = checksFor s in
     record { repairs = length (repairsOf cs w); unmet = unmetCount cs w; stuffing = got .stuffing }
 
--- from the received word: stuck, or the read goes on from the word the rule ends with
-unfoldable pub answerFromReceived : Sizes → List ℕ → Counts → ℕ → ReadAnswer
-answerFromReceived s w got room =
+-- from the received word: stuck, or more repairs than places may be stored, or the read goes on from the word the rule ends with
+unfoldable pub answerFromReceived : Sizes → List ℕ → Counts → ℕ → ℕ → ReadAnswer
+answerFromReceived s w got room slots =
     let c = mendedCounts s w got in
-    firstOf (counted c) (stuckWord s w ∷ []) (answerFromAccepted s (lastWord (checksFor s) w) c room)
+    firstOf (counted c) (stuckWord s w ∷ shortPlaces s w slots ∷ []) (answerFromAccepted s (lastWord (checksFor s) w) c room)
 
 -- the counts once a matrix is received: document 02, W-202, the wrong stuffing bits
 abbrev pub receivedCounts : Params → List ℕ → List ℕ → Counts
 receivedCounts p l matrix = record { repairs = 0; unmet = 0; stuffing = wrongStuffing p l matrix }
 
 -- the answer of a read with a work buffer of this length
-unfoldable pub readAnswer : Params → List ℕ → List ℕ → ℕ → ℕ → ReadAnswer
-readAnswer p l matrix work room =
+unfoldable pub readAnswer : Params → List ℕ → List ℕ → ℕ → ℕ → ℕ → ReadAnswer
+readAnswer p l matrix work room slots =
     firstOf refused (earlyRows p l matrix work)
-    (answerFromReceived (sizesFor p l) (receivedWord p l matrix) (receivedCounts p l matrix) room)
+    (answerFromReceived (sizesFor p l) (receivedWord p l matrix) (receivedCounts p l matrix) room slots)
 
 -- the counts of a read that reaches the checks
 abbrev pub countsOf : Params → List ℕ → List ℕ → Counts
 countsOf p l matrix = mendedCounts (sizesFor p l) (receivedWord p l matrix) (receivedCounts p l matrix)
 
 -- All rows of a read. Its number and place are those of this table (the law `read-table`).
-unfoldable pub readRows : Params → List ℕ → List ℕ → ℕ → ℕ → List Row
-readRows p l matrix work room =
-    let s = sizesFor p l in
-    let w = receivedWord p l matrix in
-    earlyRows p l matrix work ++ (stuckWord s w ∷ acceptedRows s (lastWord (checksFor s) w) room)
+unfoldable pub readRows : Params → List ℕ → List ℕ → ℕ → ℕ → ℕ → List Row
+readRows p l matrix work room slots =
+    earlyRows p l matrix work ++ receivedRows (sizesFor p l) (receivedWord p l matrix) room slots

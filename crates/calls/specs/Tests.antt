@@ -1,5 +1,6 @@
--- Document 01, "Numbers returned", without 8 (document 02, W-202): a table of tests is a list of rows, each with its number and place,
--- and the answer is that of the first row whose test holds. Each row is written here, once; the tables of the calls are made of them.
+-- Document 01, "Numbers returned", without 8 and with 16 (document 02, W-202 and W-205): a table of tests is a list of rows, each with
+-- its number and place, and the answer is that of the first row whose test holds. Each row is written here, once; the tables of the
+-- calls are made of them.
 -- Assumes nothing.
 use Prim.Native.Nat.{ℕ, _*_}
 use mathlib.Core.Bool.{Bool, true, cond, not, _&&_, _||_}
@@ -12,7 +13,7 @@ use Rattle.symbology.specs.Bits.{anyOne}
 use Rattle.symbology.specs.Parameters.{inRange}
 use Rattle.symbology.specs.Reserved.{listVerdict, listNumber, listPlace}
 use Rattle.symbology.specs.Capacity.{sizesFor}
-use Rattle.symbology.specs.Rule.{stuck}
+use Rattle.symbology.specs.Rule.{repairsOf, lastWord, stuck}
 use Rattle.symbology.specs.Code.{checksFor, messageBitsFor}
 use Rattle.symbology.specs.Stream.{Decoded, decode}
 use Rattle.symbology.specs.Net.{exceeds, streamIn}
@@ -80,6 +81,10 @@ badModule p matrix =
 abbrev pub stuckWord : Sizes → List ℕ → Row
 stuckWord s w = row (stuck (checksFor s) w) 9 0
 
+-- document 02, W-205: there are more repairs than the slice for their places holds
+abbrev pub shortPlaces : Sizes → List ℕ → ℕ → Row
+shortPlaces s w slots = row (ltb slots (length (repairsOf (checksFor s) w))) 16 0
+
 -- a spare message column is 1
 abbrev pub spareOne : Sizes → List ℕ → Row
 spareOne s w = row (anyOne (drop (s .net) (messageBitsFor s w))) 10 0
@@ -127,6 +132,10 @@ streamRows net room =
 -- an accepted word
 unfoldable pub acceptedRows : Sizes → List ℕ → ℕ → List Row
 acceptedRows s w room = spareOne s w ∷ streamRows (take (s .net) (messageBitsFor s w)) room
+
+-- a received word, with room for so many bytes and so many places
+unfoldable pub receivedRows : Sizes → List ℕ → ℕ → ℕ → List Row
+receivedRows s w room slots = stuckWord s w ∷ shortPlaces s w slots ∷ acceptedRows s (lastWord (checksFor s) w) room
 
 -- Parameters, list and buffers are legal (document 01's term): none of the tests 1 to 5 applies.
 unfoldable pub isLegal : Params → List ℕ → ℕ → ℕ → Bool

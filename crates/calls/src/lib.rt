@@ -40,7 +40,7 @@ pub struct Counts {
     pub stuffing: usize,
 }
 
-// The answer of a read: document 01's number and place, the message's length, and the counts.
+// The answer of a read: the number and place of documents 01 and 02, the message's length, and the counts.
 pub struct ReadAnswer {
     pub number: u32,
     pub place: usize,

@@ -8,7 +8,7 @@ use native.Mathlib.Omega.{arith}
 use lib.ListN.{length, take, drop}
 use Rattle.symbology.specs.Bits.{AllBits, anyOne}
 use Rattle.symbology.specs.Matrix.{BitMatrix, checksOf}
-use Rattle.symbology.specs.Rule.{unmetCount, repairsOf, lastWord, stuck}
+use Rattle.symbology.specs.Rule.{unmetCount, repairsOf, placesOf, lastWord, stuck}
 use Rattle.symbology.specs.Codeword.{codeword, messageBits}
 use Rattle.laws.proofs.Agree.{checks-same, codeword-same, message-same}
 use Rattle.lent.specs.declared.Areas.{Areas}
@@ -93,6 +93,7 @@ module _ {a : Areas} {m : BitMatrix} {before after : List ℕ} (holds : HoldsChe
         changed = changed-wider (b .changed) (λ q o. o .1);
         word-is = b .word-is ∙ ap (λ (cs : List (List ℕ)). lastWord cs w) same;
         repairs-are = b .repairs-are ∙ ap (λ (cs : List (List ℕ)). length (repairsOf cs w)) same;
+        places-are = b .places-are ∙ ap (λ (cs : List (List ℕ)). placesOf (repairsOf cs w)) same;
         first-is = b .first-is ∙ ap (λ (cs : List (List ℕ)). unmetCount cs w) same;
         bounded = b .bounded;
         stuck-is = b .stuck-is ∙ ap (λ (cs : List (List ℕ)). stuck cs w) same;

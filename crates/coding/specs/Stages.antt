@@ -8,11 +8,12 @@ use mathlib.Core.List.{List, [], _∷_}
 use lib.ListN.{length, take, drop}
 use Rattle.symbology.specs.Bits.{anyOne}
 use Rattle.symbology.specs.Matrix.{BitMatrix, checksOf}
-use Rattle.symbology.specs.Rule.{unmetCount, repairsOf, lastWord, stuck}
+use Rattle.symbology.specs.Rule.{unmetCount, repairsOf, placesOf, lastWord, stuck}
 use Rattle.symbology.specs.Codeword.{codeword, messageBits}
 use Rattle.lent.specs.declared.Areas.{Areas}
 use Rattle.lent.specs.Changes.{Changed}
-use Rattle.lent.specs.Work.{rowsSpan, wordRowSpan, marksSpan, wordSpan, numbersSpan, netSpan, wordIn, netIn}
+use Rattle.lent.specs.Buffer.{numbersAt}
+use Rattle.lent.specs.Work.{rowsSpan, wordRowSpan, marksSpan, wordSpan, numbersSpan, netSpan, repairedSpan, wordIn, netIn}
 use Rattle.checks.specs.Checks.{checksSpan, HoldsChecks}
 
 -- The word is the codeword of the net bits. Rows, the row behind them, marks and numbers are scratch then: nothing is said of them.
@@ -22,12 +23,13 @@ pub record WordEncoded (a : Areas) (m : BitMatrix) (before after : List ℕ) : T
   pub word-is : wordIn a after ≡ codeword (a .checks) (a .gross) m (netIn a before)
 
 -- The word is the last of the rule's run from the word before, over the checks of the matrix, and repairs, first unmet count and stuck
--- are those of that run. The checks are those of the matrix. The row behind the rows, marks and numbers are scratch then: nothing is said
--- of them. Nothing else is changed.
+-- are those of that run; the places of the repairs, in their order, begin the area of the places. The checks are those of the matrix. The
+-- row behind the rows, marks and numbers are scratch then: nothing is said of them. Nothing else is changed.
 pub record WordMended (a : Areas) (m : BitMatrix) (before after : List ℕ) (repairs first : ℕ) (isStuck : Bool) : Type 0 where
-  pub changed : Changed (checksSpan a ∷ wordRowSpan a ∷ marksSpan a ∷ wordSpan a ∷ numbersSpan a ∷ []) before after
+  pub changed : Changed (checksSpan a ∷ wordRowSpan a ∷ marksSpan a ∷ wordSpan a ∷ numbersSpan a ∷ repairedSpan a ∷ []) before after
   pub word-is : wordIn a after ≡ lastWord (checksOf (a .checks) (a .gross) m) (wordIn a before)
   pub repairs-are : repairs ≡ length (repairsOf (checksOf (a .checks) (a .gross) m) (wordIn a before))
+  pub places-are : numbersAt after (a .repaired) repairs ≡ placesOf (repairsOf (checksOf (a .checks) (a .gross) m) (wordIn a before))
   pub first-is : first ≡ unmetCount (checksOf (a .checks) (a .gross) m) (wordIn a before)
   pub bounded : repairs ≤ first
   pub stuck-is : isStuck ≡ stuck (checksOf (a .checks) (a .gross) m) (wordIn a before)

@@ -3,23 +3,24 @@
 // decimal numbers with one space between two:
 //
 //     0 kind h v N black cyan yellow wc wr mask turn L list[0..L] M W n message[0..n]
-//     1 kind h v N black cyan yellow wc wr mask turn L list[0..L] W R M matrix[0..M]
+//     1 kind h v N black cyan yellow wc wr mask turn L list[0..L] W R S M matrix[0..M]
 //
 // The first is a write and the second a read. L is the length of the list, at most 3,100; M that of the
-// matrix, at most 4,096; W that of the work buffer, at most 53,964; n that of the message and R that of
-// the message buffer, each at most 1,024. A parameter has at most 32 bits, a number of the list 16 and
-// one of the message or the matrix 8. Document 01: programs keep to symbols of C at most 1,047 with wc 3,
-// wr 9: at most 53,964 work bytes, with which no greater C passes test 5. What a call stores to is filled
-// with the byte 165 before. Each case prints one line:
+// matrix, at most 4,096; W that of the work buffer, at most 53,964; n that of the message, R that of the
+// message buffer and S that of the slice for places, each at most 1,024. A parameter has at most 32 bits, a
+// number of the list 16 and one of the message or the matrix 8. Document 01: programs keep to symbols of C at
+// most 1,047 with wc 3, wr 9: at most 53,964 work bytes, with which no greater C passes test 5. Every byte that
+// a call stores to is 165 before, and so a number of the slice 42,405. Each case prints one line:
 //
 //     write NUMBER PLACE WORK MATRIX
-//     read NUMBER PLACE LENGTH REPAIRS UNMET STUFFING WORK REST BYTES
+//     read NUMBER PLACE LENGTH REPAIRS UNMET STUFFING WORK REST SLICE BYTES PLACES
 //
 // WORK is `zero` where all W bytes are 0, or `kept` where all are 165, or `changed`. MATRIX is the
 // modules, a digit each, or after a refusal `kept` where all M bytes are 165, or `changed`. REST says the
-// same of the message buffer behind its first LENGTH bytes, and BYTES are these, in decimal. A line that
-// has another form, a number above its limit, or another wc or wr prints `bad case`. Of the input the
-// first 524,288 bytes are read.
+// same of the message buffer behind its first LENGTH bytes, and BYTES are these, in decimal. PLACES are the
+// first numbers of the slice, on 0 as many as REPAIRS and on a refusal none, and SLICE says the same of all
+// numbers behind them, some that lie behind the slice among them. A line that has another form, a number above
+// its limit, or another wc or wr prints `bad case`. Of the input the first 655,360 bytes are read.
 use calls::ReadAnswer;
 use libc::STDIN_FILENO;
 use libc::STDOUT_FILENO;
@@ -232,6 +233,30 @@ fn all_are(bytes: &[u8], value: u8) -> bool
     true
 }
 
+fn fill_numbers(numbers: &mut [u16])
+    ensures { λ _. ⌜ now (numbers .exit) ≡ replicate (length (now (numbers .entry))) 42405 ⌝ }
+{
+    let mut i = 0;
+    while i < numbers.len() {
+        numbers[i] = 42405;
+        i += 1;
+    }
+}
+
+fn all_filled(numbers: &[u16]) -> bool
+    ensures { λ r. ⌜ (r ≡ true → now (numbers .entry) ≡ replicate (length (now (numbers .entry))) 42405) ⌝ }
+    ensures { λ r. ⌜ (r ≡ false → now (numbers .entry) ≡ replicate (length (now (numbers .entry))) 42405 → ⊥) ⌝ }
+{
+    let mut i = 0;
+    while i < numbers.len() {
+        if numbers[i] != 42405 {
+            return false;
+        }
+        i += 1;
+    }
+    true
+}
+
 fn print(text: &[u8]) {
     io::write_all(STDOUT_FILENO, text);
 }
@@ -241,11 +266,15 @@ fn print_number(n: usize) {
     io::print_decimal(STDOUT_FILENO, n as u64);
 }
 
-fn print_kept(bytes: &[u8]) {
-    if all_are(bytes, 165) {
+fn print_state(kept: bool) {
+    if kept {
         return print(b" kept");
     }
     print(b" changed")
+}
+
+fn print_kept(bytes: &[u8]) {
+    print_state(all_are(bytes, 165))
 }
 
 fn print_work(work: &[u8]) {
@@ -259,6 +288,15 @@ fn print_bytes(bytes: &[u8]) {
     let mut i = 0;
     while i < bytes.len() {
         print_number(wide(bytes[i]));
+        i += 1;
+    }
+}
+
+// The places of the repairs, in decimal.
+fn print_places(places: &[u16]) {
+    let mut i = 0;
+    while i < places.len() {
+        print_number(places[i] as usize);
         i += 1;
     }
 }
@@ -305,11 +343,37 @@ fn run_write(p: Params, list: &[u16], message: &[u8], matrix: &mut [u8], work: &
     print(b"\n");
 }
 
-// A read, whose message is never longer than its buffer.
-fn read(p: Params, list: &[u16], matrix: &[u8], work: &mut [u8], message: &mut [u8]) -> ReadAnswer
-    ensures { λ r. ⌜ r .length ≤ length (now (message .entry)) ⌝ }
+// What a read answered, and how many places it stored.
+struct Reading {
+    answer: ReadAnswer,
+    stored: usize,
+}
+
+// A read with the first `slots` numbers as the slice for places. The message is never longer than its buffer,
+// nor are there more places than numbers.
+fn read(
+    p: Params,
+    list: &[u16],
+    matrix: &[u8],
+    work: &mut [u8],
+    message: &mut [u8],
+    numbers: &mut [u16],
+    slots: usize,
+) -> Reading
+    requires { ⌜ slots ≤ length (now numbers) ⌝ }
+    ensures { λ r. ⌜ (r .answer .length ≤ length (now (message .entry))) × (r .stored ≤ length (now (numbers .entry))) ⌝ }
 {
-    jabcode::read(p, list, matrix, work, message)
+    let answer = jabcode::read(p, list, matrix, work, message, &mut numbers[0..slots]);
+    if answer.number != 0 {
+        return Reading {
+            answer: answer,
+            stored: 0,
+        };
+    }
+    Reading {
+        answer: answer,
+        stored: answer.repairs,
+    }
 }
 
 fn print_read(answer: ReadAnswer) {
@@ -322,17 +386,40 @@ fn print_read(answer: ReadAnswer) {
     print_number(answer.stuffing);
 }
 
-fn run_read(p: Params, list: &[u16], matrix: &[u8], work: &mut [u8], message: &mut [u8])
-    requires { ⌜ (p .wc ≡ 3) × (p .wr ≡ 9) × (length (now work) ≤ 53964) ⌝ }
-{
+// Fills what a read stores to.
+fn fill_all(work: &mut [u8], message: &mut [u8], numbers: &mut [u16]) {
     fill(work);
     fill(message);
-    let answer = read(p, list, matrix, work, message);
-    print_read(answer);
-    print_work(work);
-    let end = answer.length;
+    fill_numbers(numbers);
+}
+
+// Prints what a read left in the message buffer and in the numbers.
+fn print_left(message: &[u8], end: usize, numbers: &[u16], stored: usize)
+    requires { ⌜ (end ≤ length (now message)) × (stored ≤ length (now numbers)) ⌝ }
+{
     print_kept(&message[end..]);
+    print_state(all_filled(&numbers[stored..]));
     print_bytes(&message[0..end]);
+    print_places(&numbers[0..stored]);
+}
+
+// A read and what it leaves. The numbers behind the slice for places are looked at as well.
+fn run_read(
+    p: Params,
+    list: &[u16],
+    matrix: &[u8],
+    work: &mut [u8],
+    message: &mut [u8],
+    numbers: &mut [u16],
+    slots: usize,
+)
+    requires { ⌜ (p .wc ≡ 3) × (p .wr ≡ 9) × (length (now work) ≤ 53964) × (slots ≤ length (now numbers)) ⌝ }
+{
+    fill_all(work, message, numbers);
+    let reading = read(p, list, matrix, work, message, numbers, slots);
+    print_read(reading.answer);
+    print_work(work);
+    print_left(message, reading.answer.length, numbers, reading.stored);
     print(b"\n");
 }
 
@@ -364,14 +451,16 @@ fn read_case(
     matrix: &mut [u8],
     work: &mut [u8],
     message: &mut [u8],
+    numbers: &mut [u16],
+    slots: usize,
 )
-    requires { ⌜ (p .wc ≡ 3) × (p .wr ≡ 9) × (length (now work) ≤ 53964) ⌝ }
+    requires { ⌜ (p .wc ≡ 3) × (p .wr ≡ 9) × (length (now work) ≤ 53964) × (slots ≤ length (now numbers)) ⌝ }
 {
     let end = take_bytes(line, at, matrix);
     if end != line.len() + 1 {
         return print(b"bad case\n");
     }
-    run_read(p, list, matrix, work, message)
+    run_read(p, list, matrix, work, message, numbers, slots)
 }
 
 // The line of a write, from the lengths behind the list on.
@@ -411,22 +500,26 @@ fn read_line(
     matrix: &mut [u8],
     work: &mut [u8],
     message: &mut [u8],
+    numbers: &mut [u16],
 )
     requires { ⌜ (p .wc ≡ 3) × (p .wr ≡ 9) ⌝ }
-    requires { ⌜ (4096 ≤ length (now matrix)) × (53964 ≤ length (now work)) × (1024 ≤ length (now message)) ⌝ }
+    requires { ⌜ (4096 ≤ length (now matrix)) × (53964 ≤ length (now work)) × (1024 ≤ length (now message)) × (1024 ≤ length (now numbers)) ⌝ }
 {
-    let given = take_lengths(line, at, 53964, 1024, 4096);
+    let given = take_lengths(line, at, 53964, 1024, 1024);
+    let modules = number(line, given.next, 4096);
     let w = given.first;
     let r = given.second;
-    let m = given.third;
+    let m = modules.value as usize;
     read_case(
         line,
-        given.next,
+        modules.next,
         p,
         list,
         &mut matrix[0..m],
         &mut work[0..w],
         &mut message[0..r],
+        numbers,
+        given.third,
     )
 }
 
@@ -446,21 +539,29 @@ fn run_case(
     matrix: &mut [u8],
     work: &mut [u8],
     message: &mut [u8],
+    numbers: &mut [u16],
 )
     requires { ⌜ (given .p .wc ≡ 3) × (given .p .wr ≡ 9) × (given .entries ≤ 3100) ⌝ }
-    requires { ⌜ (3100 ≤ length (now list)) × (4096 ≤ length (now matrix)) × (53964 ≤ length (now work)) × (1024 ≤ length (now message)) ⌝ }
+    requires { ⌜ (3100 ≤ length (now list)) × (4096 ≤ length (now matrix)) × (53964 ≤ length (now work)) × (1024 ≤ length (now message)) × (1024 ≤ length (now numbers)) ⌝ }
 {
     let p = given.p;
     let l = given.entries;
     let at = take_list(line, given.next, &mut list[0..l]);
     if call == 1 {
-        return read_line(line, at, p, &list[0..l], matrix, work, message);
+        return read_line(line, at, p, &list[0..l], matrix, work, message, numbers);
     }
     write_line(line, at, p, &list[0..l], matrix, work, message)
 }
 
-fn run_line(line: &[u8], list: &mut [u16], matrix: &mut [u8], work: &mut [u8], message: &mut [u8])
-    requires { ⌜ (3100 ≤ length (now list)) × (4096 ≤ length (now matrix)) × (53964 ≤ length (now work)) × (1024 ≤ length (now message)) ⌝ }
+fn run_line(
+    line: &[u8],
+    list: &mut [u16],
+    matrix: &mut [u8],
+    work: &mut [u8],
+    message: &mut [u8],
+    numbers: &mut [u16],
+)
+    requires { ⌜ (3100 ≤ length (now list)) × (4096 ≤ length (now matrix)) × (53964 ≤ length (now work)) × (1024 ≤ length (now message)) × (1024 ≤ length (now numbers)) ⌝ }
 {
     if is_comment(line) {
         return;
@@ -473,7 +574,16 @@ fn run_line(line: &[u8], list: &mut [u16], matrix: &mut [u8], work: &mut [u8], m
     if given.p.wr != 9 {
         return print(b"bad case\n");
     }
-    run_case(line, call.value, given, list, matrix, work, message)
+    run_case(
+        line,
+        call.value,
+        given,
+        list,
+        matrix,
+        work,
+        message,
+        numbers,
+    )
 }
 
 // Where the line that starts at `from` ends.
@@ -491,22 +601,29 @@ fn line_end(input: &[u8], from: usize) -> usize
     to
 }
 
-fn run_lines(input: &[u8], list: &mut [u16], matrix: &mut [u8], work: &mut [u8], message: &mut [u8])
-    requires { ⌜ (3100 ≤ length (now list)) × (4096 ≤ length (now matrix)) × (53964 ≤ length (now work)) × (1024 ≤ length (now message)) ⌝ }
+fn run_lines(
+    input: &[u8],
+    list: &mut [u16],
+    matrix: &mut [u8],
+    work: &mut [u8],
+    message: &mut [u8],
+    numbers: &mut [u16],
+)
+    requires { ⌜ (3100 ≤ length (now list)) × (4096 ≤ length (now matrix)) × (53964 ≤ length (now work)) × (1024 ≤ length (now message)) × (1024 ≤ length (now numbers)) ⌝ }
 {
     let mut from = 0;
     while from < input.len() {
         let to = line_end(input, from);
-        run_line(&input[from..to], list, matrix, work, message);
+        run_line(&input[from..to], list, matrix, work, message, numbers);
         from = to + 1;
     }
 }
 
-// 524,288 zeros, for the input.
-fn input_buffer() -> [u8; 524288]
-    ensures { λ r. ⌜ 524288 ≡ length r ⌝ }
+// 655,360 zeros, for the input.
+fn input_buffer() -> [u8; 655360]
+    ensures { λ r. ⌜ 655360 ≡ length r ⌝ }
 {
-    [0; 524288]
+    [0; 655360]
 }
 
 fn main() {
@@ -515,6 +632,14 @@ fn main() {
     let mut matrix = io::buffer();
     let mut work = [0u8; 53964];
     let mut message = [0u8; 1024];
+    let mut numbers = [0u16; 1032];
     let n = io::read_full(STDIN_FILENO, &mut input);
-    run_lines(&input[..n], &mut list, &mut matrix, &mut work, &mut message);
+    run_lines(
+        &input[..n],
+        &mut list,
+        &mut matrix,
+        &mut work,
+        &mut message,
+        &mut numbers,
+    );
 }

@@ -15,7 +15,7 @@ use Rattle.calls.specs.declared.ReadAnswer.{ReadAnswer}
 use Rattle.calls.specs.Answers.{answer, refused}
 use Rattle.calls.specs.Tests.{firstOf, passes, noRoom, badModule, frontRows, writeRows, earlyRows, isLegal}
 use Rattle.calls.specs.Write.{writeAnswer}
-use Rattle.calls.specs.Read.{messageIn, answerFromReceived, receivedCounts, readAnswer}
+use Rattle.calls.specs.Read.{messageIn, placesIn, answerFromReceived, receivedCounts, readAnswer}
 use Rattle.calls.specs.Contracts.{Writes, Reads}
 use Rattle.call_laws.proofs.Tests.{first-append, first-passed, first-refuses, front-numbered}
 use Rattle.call_laws.proofs.Answers.{refused-write, refused-front, work-untouched}
@@ -70,19 +70,21 @@ write-refused p l stream matrix work {a = a} told e =
     }
 
 -- a read that one of them refuses
-pub read-refused : (p : Params) (l matrix work message : List ℕ) {v : Verdict} {a : Answer} {r : ReadAnswer}
+pub read-refused : (p : Params) (l matrix work message places : List ℕ) {v : Verdict} {a : Answer} {r : ReadAnswer}
     → v ≡ verdictOf (frontRows p l (length matrix) (length work)) (sizesFor p l)
     → v ≡ Refused a
     → r ≡ refused (a .number) (a .place)
-    → Reads p l matrix work message r work message
+    → Reads p l matrix work message places r work message places
 unfolding readAnswer earlyRows
-read-refused p l matrix work message {a = a} {r} told e is =
+read-refused p l matrix work message places {a = a} {r} told e is =
     let given = answer-is p l (length matrix) (length work) told e in
     let some-number = some p l (length matrix) (length work) told e in
-    let onward : ReadAnswer = answerFromReceived (sizesFor p l) (receivedWord p l matrix) (receivedCounts p l matrix) (length message) in
-    let same : readAnswer p l matrix (length work) (length message) ≡ refused (a .number) (a .place) =
+    let onward : ReadAnswer =
+    answerFromReceived (sizesFor p l) (receivedWord p l matrix) (receivedCounts p l matrix) (length message) (length places) in
+    let same : readAnswer p l matrix (length work) (length message) (length places) ≡ refused (a .number) (a .place) =
     first-append refused (frontRows p l (length matrix) (length work)) (badModule p matrix ∷ []) onward
     ∙ first-refuses refused (frontRows p l (length matrix) (length work)) _ a given some-number in
     let other : r .number ≡ 0 → ⊥ = λ z. some-number (sym (ap (λ (b : ReadAnswer). b .number) is) ∙ z) in
-    reads-are p l matrix work message (is ∙ sym same) (sym (refused-front (r .number) (messageIn p l matrix) message other))
+    reads-are p l matrix work message places (is ∙ sym same) (sym (refused-front (r .number) (messageIn p l matrix) message other))
+    (sym (refused-front (r .number) (placesIn p l matrix) places other))
     (sym (work-untouched p l work (length matrix) (not-legal p l (length matrix) (length work) told e)))

@@ -3,7 +3,7 @@
 use Prim.Native.Nat.{ℕ, suc, _≤_}
 use mathlib.Core.Path.{_≡_, refl, sym, ap, ap₂, _∙_}
 use mathlib.Core.Bool.{cond}
-use mathlib.Core.List.{List}
+use mathlib.Core.List.{List, []}
 use native.Mathlib.Omega.{arith}
 use lib.ListN.{length, replicate}
 use lib.Dec.{eqb}
@@ -50,7 +50,7 @@ module _ (p : Params) (l message matrix work back : List ℕ) {a : Answer} {matr
   after = matrixAfterWrite p l stream (length work) matrix
 
   abbrev read : ReadAnswer
-  read = readAnswer p l after (length work) (length back)
+  read = readAnswer p l after (length work) (length back) 0
 
   number-is : a .number ≡ defined .number
   number-is = ap (λ (b : Answer). b .number) (w .answer-is)
@@ -82,8 +82,9 @@ module _ (p : Params) (l message matrix work back : List ℕ) {a : Answer} {matr
             };
       }
 
-  -- it is done, and its matrix is read
-  pub then-read : {r : ReadAnswer} {work″ back′ : List ℕ} → AllBytes message → a .number ≡ 0 → Reads p l matrix′ work′ back r work″ back′
+  -- it is done, and its matrix is read, with an empty slice for places
+  pub then-read : {r : ReadAnswer} {work″ back′ none′ : List ℕ} → AllBytes message → a .number ≡ 0
+      → Reads p l matrix′ work′ back [] r work″ back′ none′
       → WritesThenReads p l message matrix work back r matrix′ work″ back′
   unfolding answerReadBack has
   then-read {r} bytes none got =
@@ -91,7 +92,7 @@ module _ (p : Params) (l message matrix work back : List ℕ) {a : Answer} {matr
       let long : length work′ ≡ length work = ap length (w .work-is) ∙ length-work p l work (length matrix) in
       let modules : length matrix′ ≡ length matrix = ap length (w .matrix-is) ∙ length-write p l stream matrix (length work) in
       let same : r ≡ read =
-      got .answer-is ∙ ap₂ (λ (x : List ℕ) (n : ℕ). readAnswer p l x n (length back)) (w .matrix-is) long in
+      got .answer-is ∙ ap₂ (λ (x : List ℕ) (n : ℕ). readAnswer p l x n (length back) 0) (w .matrix-is) long in
       let given : cond (eqb (defined .number) 0) read (refused (defined .number) (defined .place)) ≡ read =
       rw (eq-eqb (defined .number) 0 zero-is) refl in
       record {
@@ -111,7 +112,7 @@ module _ (p : Params) (l message matrix work back : List ℕ) {a : Answer} {matr
               is-written = λ h. (λ six. never-6 (ap (λ (b : ReadAnswer). b .number) (sym same) ∙ six), w .matrix-is ∙ law .written h .1);
               comes-back = λ h g.
                   let enough : sizesFor p l .work ≤ length work = legal p l (length matrix) (length work) e .enough in
-                  let found = law .read-back message back (length work) (chosen-reads message bytes) h enough g in (
+                  let found = law .read-back message back [] (length work) (chosen-reads message bytes) h enough g in (
                     same ∙ found .0,
                     got .message-is
                         ∙ ap₂ (λ (b : ReadAnswer) (x : List ℕ). frontAfter (b .number) (messageIn p l x) back) same (w .matrix-is)
@@ -122,4 +123,4 @@ module _ (p : Params) (l message matrix work back : List ℕ) {a : Answer} {matr
     where
       -- no read answers 6
       never-6 : read .number ≡ 6 → ⊥
-      never-6 six = clash (rw six at (read-answer p l after (length work) (length back) .number-is)) refl
+      never-6 six = clash (rw six at (read-answer p l after (length work) (length back) 0 .number-is)) refl

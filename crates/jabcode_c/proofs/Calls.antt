@@ -24,9 +24,13 @@ pub writes-for : (w l message matrix work : List ℕ) {p : Params} {a : Answer} 
 writes-for w l message matrix work {a = a} {matrix′} {work′} e is =
     record { given = a; words-are = refl; writes = subst (λ (q : Params). Writes q l (streamOf message) matrix work a matrix′ work′) e is }
 
-pub reads-for : (w l matrix work message : List ℕ) {p : Params} {a : ReadAnswer} {work′ message′ : List ℕ}
+pub reads-for : (w l matrix work message places : List ℕ) {p : Params} {a : ReadAnswer} {work′ message′ places′ : List ℕ}
     → p ≡ paramsOf w
-    → Reads p l matrix work message a work′ message′
-    → ReadsFor w l matrix work message work′ message′ (readWords a)
-reads-for w l matrix work message {a = a} {work′} {message′} e is =
-    record { given = a; words-are = refl; reads = subst (λ (q : Params). Reads q l matrix work message a work′ message′) e is }
+    → Reads p l matrix work message places a work′ message′ places′
+    → ReadsFor w l matrix work message places work′ message′ places′ (readWords a)
+reads-for w l matrix work message places {a = a} {work′} {message′} {places′} e is =
+    record {
+      given = a;
+      words-are = refl;
+      reads = subst (λ (q : Params). Reads q l matrix work message places a work′ message′ places′) e is;
+    }

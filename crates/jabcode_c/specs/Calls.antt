@@ -17,7 +17,7 @@ pub record WritesFor (w l message matrix work matrix′ work′ answer : List �
   pub writes : Writes (paramsOf w) l (streamOf message) matrix work given matrix′ work′
 
 -- a read
-pub record ReadsFor (w l matrix work message work′ message′ answer : List ℕ) : Type 0 where
+pub record ReadsFor (w l matrix work message places work′ message′ places′ answer : List ℕ) : Type 0 where
   pub given : ReadAnswer
   pub words-are : answer ≡ readWords given
-  pub reads : Reads (paramsOf w) l matrix work message given work′ message′
+  pub reads : Reads (paramsOf w) l matrix work message places given work′ message′ places′

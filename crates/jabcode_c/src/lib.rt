@@ -69,11 +69,12 @@ pub extern "C" fn jab_read(
     matrix: &[u8],
     work: &mut [u8],
     message: &mut [u8],
+    places: &mut [u16],
     answer: &mut [u64; 6],
 )
-    ensures reads { λ _. ⌜ ReadsFor (now (params .entry)) (now (reserved .entry)) (now (matrix .entry)) (now (work .entry)) (now (message .entry)) (now (work .exit)) (now (message .exit)) (now (answer .exit)) ⌝ }
+    ensures reads { λ _. ⌜ ReadsFor (now (params .entry)) (now (reserved .entry)) (now (matrix .entry)) (now (work .entry)) (now (message .entry)) (now (places .entry)) (now (work .exit)) (now (message .exit)) (now (places .exit)) (now (answer .exit)) ⌝ }
 {
-    let a = jabcode::read(params_of(params), reserved, matrix, work, message);
+    let a = jabcode::read(params_of(params), reserved, matrix, work, message, places);
     *answer = [
         a.number as u64,
         a.place as u64,

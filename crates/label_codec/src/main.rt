@@ -9,8 +9,8 @@
 // `read` takes such a text and prints a line of numbers and the message behind it. A write that is refused
 // prints such a line alone. Its numbers are document 01's number and place, the bytes of the record or the
 // message, the modules, repairs, checks unmet at first, wrong stuffing bits, and then of the symbol: columns,
-// rows, C, net bits, work bytes and checks, which are 0 with 1, 2 and 3. `colours` prints how many colours there
-// are and the indices of black, cyan and yellow.
+// rows, C, net bits, work bytes and checks, which are 0 with 1, 2 and 3. Behind them a read that is done has the
+// place of each repair. `colours` prints how many colours there are and the indices of black, cyan and yellow.
 //
 // Document 01: programs keep to symbols of C at most 1,047 with wc 3, wr 9: at most 53,964 work bytes. Another
 // wc or wr is refused with the line `100` and twelve zeros; 100 is no number of document 01. The work buffer
@@ -21,6 +21,8 @@ use libc::STDOUT_FILENO;
 use symbology::Params;
 ghost use Prim.Native.Nat.{_+_, _≤_, _<_};
 ghost use mathlib.Core.Path.{_≡_};
+ghost use mathlib.Core.Bool.{cond};
+ghost use lib.Dec.{eqb};
 ghost use lib.ListN.{length};
 
 // The greatest parameter.
@@ -215,7 +217,7 @@ fn take_list(p: Params, list: &mut [u16]) -> usize
     take_numbers(list, arguments - LIST_AT)
 }
 
-// Prints a line of numbers.
+// Prints numbers, each with a space behind it.
 fn print_numbers(numbers: &[usize]) {
     let mut i = 0;
     while i < numbers.len() {
@@ -223,6 +225,19 @@ fn print_numbers(numbers: &[usize]) {
         io::write_all(STDOUT_FILENO, b" ");
         i += 1;
     }
+}
+
+// The same of the places of the repairs.
+fn print_places(places: &[u16]) {
+    let mut i = 0;
+    while i < places.len() {
+        io::print_decimal(STDOUT_FILENO, places[i] as u64);
+        io::write_all(STDOUT_FILENO, b" ");
+        i += 1;
+    }
+}
+
+fn end_line() {
     io::write_all(STDOUT_FILENO, b"\n");
 }
 
@@ -235,11 +250,13 @@ fn print_colours(p: Params) {
             p.yellow as usize,
         ],
     );
+    end_line();
 }
 
 // Prints the refusal of a wc or wr beyond the limit.
 fn print_beyond() {
     print_numbers(&[100, 0, 0, 0, 0, 0, 0, 0, 0, 0, 0, 0, 0]);
+    end_line();
 }
 
 fn area(columns: usize, rows: usize) -> usize
@@ -303,7 +320,8 @@ fn write_record(p: Params, list: &[u16], record: &[u8], matrix: &mut [u8])
     let answer = jabcode::write(p, list, record, matrix, &mut work);
     if answer.number != 0 {
         let refusal = calls::refused(answer.number, answer.place);
-        return print_answer(p, list, refusal, record.len(), matrix.len());
+        print_answer(p, list, refusal, record.len(), matrix.len());
+        return end_line();
     }
     as_digits(matrix);
     print_rows(matrix, side(p.horizontal));
@@ -390,17 +408,39 @@ fn read_modules(matrix: &mut [u8]) -> usize
     n
 }
 
-// Reads a text and prints the answer and the message. The message fits: it has no more bytes than the
-// symbol net bits, and those are fewer than 4,096.
+// How many places a read stored: one for each repair on 0, and none on a refusal.
+fn stored_places(answer: ReadAnswer) -> usize
+    ensures { λ r. ⌜ r ≡ cond (eqb (answer .number) 0) (answer .repairs) 0 ⌝ }
+{
+    if answer.number != 0 {
+        return 0;
+    }
+    answer.repairs
+}
+
+// Reads a text and prints the answer, the places of the repairs and the message. The message fits: it has no
+// more bytes than the symbol net bits, and those are fewer than 4,096. So do the places: a symbol of C at most
+// 1,047 has at most 348 checks, and there are no more repairs.
 fn read_label(p: Params, list: &[u16])
     requires { ⌜ (p .wc ≡ 3) × (p .wr ≡ 9) ⌝ }
 {
     let mut matrix = io::large_buffer();
     let mut work = [0u8; 53964];
     let mut message = io::buffer();
+    let mut places = [0u16; 348];
     let modules = read_modules(&mut matrix);
-    let answer = jabcode::read(p, list, &matrix[..modules], &mut work, &mut message);
+    let answer = jabcode::read(
+        p,
+        list,
+        &matrix[..modules],
+        &mut work,
+        &mut message,
+        &mut places,
+    );
     print_answer(p, list, answer, answer.length, modules);
+    let stored = stored_places(answer);
+    print_places(&places[..stored]);
+    end_line();
     let length = answer.length;
     io::write_all(STDOUT_FILENO, &message[..length]);
 }

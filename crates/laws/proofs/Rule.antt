@@ -10,13 +10,13 @@ use native.Mathlib.Nat.{zero-add}
 use native.Mathlib.Omega.{arith}
 use native.Mathlib.Decide.{ℕ-discrete, decLt}
 use lib.Dec.{eqb}
-use lib.ListN.{length, getD, length-set, List·getD-eq-default}
+use lib.ListN.{length, getD, length-set, length-map, List·getD-eq-default}
 use lib.Seq.{getD-set-same, getD-set-other, set-out}
 use borrow.Author.Tests.{ltb-true, ltb-false, eqb-true, eqb-false, lt-ltb, le-ltb, eq-eqb, ne-eqb}
 use Rattle.symbology.specs.Ranges.{tabulate, those, has}
 use Rattle.symbology.specs.Bits.{AllBits}
 use Rattle.symbology.specs.Matrix.{BitMatrix, checkOf, checksOf}
-use Rattle.symbology.specs.Rule.{bitSum, unmet, unmetCount, unmetAt, metAt, isSuspect, suspect, turned, ends}
+use Rattle.symbology.specs.Rule.{bitSum, unmet, unmetCount, unmetAt, metAt, isSuspect, suspect, turned, ends, placesOf}
 use Rattle.symbology.specs.Steps.{LowestSuspect, Ended}
 use Rattle.symbology.proofs.Ranges.{clash}
 use Rattle.laws.proofs.Ranges.{by, or-left, or-right, or-none, lowest-to, lowest-holds, lowest-before}
@@ -131,10 +131,15 @@ unmet-change c w j o b l =
     (λ e. rw e (omega (arith, sum-kept c w j e)))
 
 -- Not more checks are unmet than there are.
-pub unmet-most : (cs : List (List ℕ)) (w : List ℕ) → unmetCount cs w ≤ length cs
+unmet-most : (cs : List (List ℕ)) (w : List ℕ) → unmetCount cs w ≤ length cs
 unfolding unmet unmetCount
 unmet-most [] w = omega arith
 unmet-most (c ∷ cs) w = omega (arith, unmet-most cs w)
+
+-- Of the checks of a matrix with k rows at most k are unmet.
+pub unmet-few : (k n : ℕ) (a : BitMatrix) (w : List ℕ) → unmetCount (checksOf k n a) w ≤ k
+unfolding checksOf
+unmet-few k n a w = omega (arith, unmet-most (checksOf k n a) w, length-tabulate k (checkOf n a))
 
 -- Turning bit j changes the unmet count by the met checks that bit j stands in less the unmet ones.
 pub unmet-after : (cs : List (List ℕ)) (w : List ℕ) (j : ℕ) → AllOnce cs → AllBits w → j < length w
@@ -213,3 +218,10 @@ ended-ends cs w (inr h) = go (eqb (unmetCount cs w) 0) (eq-eqb (suspect cs w) (l
     go : (t : Bool) → eqb (suspect cs w) (length w) ≡ true → (t || eqb (suspect cs w) (length w)) ≡ true
     go true e = refl
     go false e = e
+
+-- ---- places
+
+-- each bit has its place
+pub length-places : (js : List ℕ) → length (placesOf js) ≡ length js
+unfolding placesOf
+length-places js = length-map js _

@@ -9,7 +9,7 @@ use lib.ListN.{length}
 use Rattle.symbology.specs.declared.Sizes.{Sizes}
 use Rattle.symbology.specs.Bits.{AllBits}
 use Rattle.symbology.specs.Matrix.{checksOf}
-use Rattle.symbology.specs.Rule.{unmetCount, repairsOf, lastWord, stuck}
+use Rattle.symbology.specs.Rule.{unmetCount, repairsOf, placesOf, lastWord, stuck}
 use Rattle.symbology.specs.Codeword.{codeword, messageBits}
 use Rattle.symbology.specs.Code.{matrixFor, checksFor, codewordFor, messageBitsFor}
 use Rattle.lent.specs.declared.Areas.{Areas}
@@ -81,6 +81,7 @@ module _ {s : Sizes} {a : Areas} {before built : List ℕ} (r : RoomFor s a (len
         changed = changed-then (changed-wider (b .changed) (λ q o. (o .0, (o .1 .1 .1 .1 .0, tt)))) (over .changed);
         word-is = over .word-is ∙ ap (lastWord cs) word-built;
         repairs-are = over .repairs-are ∙ ap (λ (w : List ℕ). length (repairsOf cs w)) word-built;
+        places-are = over .places-are ∙ ap (λ (w : List ℕ). placesOf (repairsOf cs w)) word-built;
         first-is = over .first-is ∙ ap (unmetCount cs) word-built;
         bounded = over .bounded;
         stuck-is = over .stuck-is ∙ ap (stuck cs) word-built;

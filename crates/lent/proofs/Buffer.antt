@@ -1,13 +1,15 @@
 -- Parts of a buffer, as lists and as code lends them and gets them back, and numbers of two bytes stored and read.
 -- Assumes nothing.
 use Prim.Native.Nat.{ℕ, _+_, _-_, _*_, _/_, _%_, _≤_, _<_}
-use mathlib.Core.Path.{_≡_, sym, ap, ap₂, _∙_}
+use mathlib.Core.Path.{_≡_, refl, sym, ap, ap₂, _∙_}
 use mathlib.Core.List.{List, [], _∷_, _++_}
 use native.Mathlib.Decide.{decLt, ℕ-discrete}
+use native.Mathlib.Numerals.{add-one}
 use native.Mathlib.Omega.{arith}
 use lib.ListN.{length, getD, take, drop, set, length-set, length-drop, List·getD-append, List·getD-eq-default}
 use lib.Seq.{length-take-le, getD-take, getD-drop, getD-set-same, getD-set-other, getD-append-add, take-at, drop-at, take-take, ext-getD}
 use borrow.Rule.Slice.PartMut.{putMid, same-len-mid}
+use Rattle.symbology.specs.Ranges.{tabulate}
 use Rattle.laws.proofs.Ranges.{length-tabulate, getD-tabulate, tabulate-ext}
 use Rattle.lent.specs.Changes.{span, Changed}
 use Rattle.lent.specs.Buffer.{part, numberAt, numbersAt, storedNumber}
@@ -71,6 +73,15 @@ length-numbers xs at n = length-tabulate n (λ i. numberAt xs (at + 2 * i))
 pub numbers-at : (xs : List ℕ) (at n i : ℕ) → i < n → getD (numbersAt xs at n) i 0 ≡ numberAt xs (at + 2 * i)
 unfolding numbersAt
 numbers-at xs at n i h = getD-tabulate n (λ j. numberAt xs (at + 2 * j)) 0 i h
+
+-- no number, and one number more
+pub numbers-none : (xs : List ℕ) (at : ℕ) → numbersAt xs at 0 ≡ []
+unfolding numbersAt tabulate
+numbers-none xs at = refl
+
+pub numbers-last : (xs : List ℕ) (at n : ℕ) → numbersAt xs at (n + 1) ≡ numbersAt xs at n ++ (numberAt xs (at + 2 * n) ∷ [])
+unfolding numbersAt tabulate
+numbers-last xs at n = rw (add-one n) refl
 
 -- Numbers of two buffers are equal where their bytes are.
 pub number-same : (xs ys : List ℕ) (at : ℕ) → getD ys at 0 ≡ getD xs at 0 → getD ys (at + 1) 0 ≡ getD xs (at + 1) 0

@@ -37,6 +37,9 @@ module _ {a : Areas} {room : ℕ} (laid : Laid a room) where
   pub net-inside : a .message + a .net ≤ room
   net-inside = omega arith
 
+  pub repaired-inside : a .repaired + 2 * a .checks ≤ room
+  repaired-inside = laid .repaired-end
+
 -- A part is as before where it is not changed.
 pub part-kept : {ss : List Span} {before after : List ℕ} → Changed ss before after → (at n : ℕ) → at + n ≤ length before
     → ((i : ℕ) → at ≤ i → i < at + n → Outside ss i) → part after at n ≡ part before at n
@@ -88,7 +91,8 @@ areas-laid {s} k h =
       marks-end = omega arith;
       word-end = omega (arith, k .inside);
       numbers-end = omega arith;
-      message-end = omega (arith, k .work-is, k .parts, k .inside);
+      message-end = omega arith;
+      repaired-end = omega (arith, k .work-is, k .parts, k .inside);
     }
 
 -- A buffer that test 5 lets pass is long enough for the sizes of a legal symbol.

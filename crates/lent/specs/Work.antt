@@ -35,6 +35,10 @@ numbersSpan a = span (a .numbers) (a .numbers + 2 * a .gross)
 abbrev pub netSpan : Areas → Span
 netSpan a = span (a .message) (a .message + a .net)
 
+-- the places of the repairs
+abbrev pub repairedSpan : Areas → Span
+repairedSpan a = span (a .repaired) (a .repaired + 2 * a .checks)
+
 -- The areas lie in a buffer of `room` bytes one behind the other. A dense row holds all columns, of which there are at most 4,096, and
 -- the net bits and the checks are together no more than the columns.
 pub record Laid (a : Areas) (room : ℕ) : Type 0 where
@@ -45,7 +49,8 @@ pub record Laid (a : Areas) (room : ℕ) : Type 0 where
   pub marks-end : a .marks + a .checks ≤ a .word
   pub word-end : a .word + a .gross ≤ a .numbers
   pub numbers-end : a .numbers + 2 * a .gross ≤ a .message
-  pub message-end : a .message + a .net ≤ room
+  pub message-end : a .message + a .net ≤ a .repaired
+  pub repaired-end : a .repaired + 2 * a .checks ≤ room
 
 -- the word in the buffer
 abbrev pub wordIn : Areas → List ℕ → List ℕ
@@ -57,13 +62,15 @@ netIn a work = part work (a .message) (a .net)
 
 -- ---- the areas for the sizes of a symbol
 
--- One area lies behind the other: rows, one more row, marks, C bits, of which the first are the word, numbers, net bits.
+-- One area lies behind the other: rows, one more row, marks, C bits, of which the first are the word, numbers, net bits,
+-- places of repairs.
 unfoldable pub areasOf : Sizes → Areas
 areasOf s =
     let stride = rowBytes (s .gross) in
     let marks = s .checks * stride + stride in
     let word = marks + s .checks in
     let numbers = word + s .capacity in
+    let message = numbers + 2 * s .gross in
     record {
       checks = s .checks;
       gross = s .gross;
@@ -72,7 +79,8 @@ areasOf s =
       marks = marks;
       word = word;
       numbers = numbers;
-      message = numbers + 2 * s .gross;
+      message = message;
+      repaired = message + s .net;
     }
 
 -- The sizes belong together, as those of a legal symbol do: A has wc blocks of t rows, and C is at most 4,096.

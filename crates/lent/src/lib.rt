@@ -7,14 +7,15 @@ use symbology::Sizes;
 ghost use Prim.Native.Nat.{_+_, _*_, _≤_, _<_};
 ghost use mathlib.Core.Path.{_≡_};
 ghost use lib.ListN.{length};
-ghost use Rattle.lent.specs.Buffer.{numberAt, storedNumber, Cleared, CountedUp};
+ghost use lib.Seq.{sets};
+ghost use Rattle.lent.specs.Buffer.{numberAt, numbersAt, storedNumber, Cleared, CountedUp};
 ghost use Rattle.lent.specs.Work.{areasOf, CodeSizes};
 
 // The areas of the work buffer. In front lie the dense rows of a check matrix, `checks` rows of
 // `stride` bytes, and one more row, for a word in that form; behind them `checks` marks of a byte
 // each, from `marks` on; then the word, `gross` bits of a byte each, from `word` on; then `gross`
-// numbers of two bytes each, from `numbers` on; and `net` message bits of a byte each, from `message`
-// on.
+// numbers of two bytes each, from `numbers` on; `net` message bits of a byte each, from `message` on; and
+// the places of the repairs, at most `checks` numbers of two bytes each, from `repaired` on.
 pub struct Areas {
     pub checks: usize,
     pub gross: usize,
@@ -24,6 +25,7 @@ pub struct Areas {
     pub word: usize,
     pub numbers: usize,
     pub message: usize,
+    pub repaired: usize,
 }
 
 // Where the areas of the work buffer lie for the sizes of a symbol. The area of the word has room for all
@@ -36,6 +38,7 @@ pub fn areas_for(s: Sizes) -> Areas
     let marks = s.checks * stride + stride;
     let word = marks + s.checks;
     let numbers = word + s.capacity;
+    let message = numbers + 2 * s.gross;
     Areas {
         checks: s.checks,
         gross: s.gross,
@@ -44,7 +47,8 @@ pub fn areas_for(s: Sizes) -> Areas
         marks: marks,
         word: word,
         numbers: numbers,
-        message: numbers + 2 * s.gross,
+        message: message,
+        repaired: message + s.net,
     }
 }
 
@@ -86,5 +90,17 @@ pub fn count_up(xs: &mut [u8], at: usize, n: usize)
     while j < n {
         put_number(xs, at + 2 * j, j);
         j += 1;
+    }
+}
+
+// Stores the n numbers of two bytes from `at` on in the first n places of a slice.
+pub fn copy_numbers(xs: &[u8], at: usize, n: usize, out: &mut [u16])
+    requires { ⌜ (at + 2 * n ≤ length (now xs)) × (n ≤ length (now out)) ⌝ }
+    ensures { λ _. ⌜ now (out .exit) ≡ sets (now (out .entry)) 0 (numbersAt (now (xs .entry)) at n) ⌝ }
+{
+    let mut i = 0;
+    while i < n {
+        out[i] = number_at(xs, at + 2 * i) as u16;
+        i += 1;
     }
 }

@@ -1,83 +1,222 @@
--- The rule's run as a loop makes it: what is left of the run from the received word is the run from the word now.
+-- The rule's run as a loop makes it: the repairs so far, and then those of the run from the word now, are the repairs of the run from the
+-- received word.
 -- Assumes nothing.
-use Prim.Native.Nat.{ℕ, suc, _+_, _≤_, _<_}
-use mathlib.Core.Path.{_≡_, refl, sym, ap, ap₂, _∙_, subst⁻¹}
+use Prim.Native.Nat.{ℕ, suc, _+_, _*_, _≤_, _<_}
+use mathlib.Core.Path.{_≡_, refl, sym, ap, ap₂, _∙_, subst, subst⁻¹}
 use mathlib.Core.Bool.{false}
-use mathlib.Core.List.{List, [], _∷_}
-use mathlib.Core.Logic.{_⊎_, inl, inr, ⊎-elim}
+use mathlib.Core.List.{List, [], _∷_, _++_, append-assoc, append-nil, map-append}
+use mathlib.Core.Logic.{inl, inr}
+use native.Mathlib.Decide.{decLt}
+use native.Mathlib.Numerals.{add-one}
 use native.Mathlib.Omega.{arith}
 use lib.Dec.{ltb}
-use lib.ListN.{length}
+use lib.ListN.{length, length-append}
 use borrow.Author.Tests.{ne-eqb}
 use Rattle.symbology.specs.Bits.{AllBits}
-use Rattle.symbology.specs.Matrix.{BitMatrix, checkOf, checksOf}
-use Rattle.symbology.specs.Rule.{unmetCount, suspect, turned, ends, repairsOf, lastWord, stuck}
-use Rattle.symbology.specs.Steps.{Ended}
-use Rattle.laws.proofs.Ranges.{length-tabulate}
-use Rattle.laws.proofs.Rule.{AllOnce, checks-once, turned-bits, step-lowers, suspect-to, suspect-lowest, suspect-none, unmet-most}
-use Rattle.laws.proofs.Rule.{ended-ends}
-use Rattle.laws.proofs.Steps.{run-ends, run-goes}
+use Rattle.symbology.specs.Rule.{unmetCount, suspect, turned, ends, repairsOf, placesOf, lastWord, stuck}
+use Rattle.symbology.specs.Steps.{LowestSuspect, Ended}
+use Rattle.laws.proofs.Rule.{AllOnce, checks-once, turned-bits, step-lowers, suspect-to, suspect-lowest, lowest-suspect, suspect-none}
+use Rattle.laws.proofs.Rule.{unmet-few, ended-ends, length-places}
+use Rattle.laws.proofs.Steps.{run-ends, run-goes, repairs-bounded}
 use Rattle.lent.specs.declared.Areas.{Areas}
 use Rattle.lent.specs.Changes.{Changed}
-use Rattle.lent.specs.Work.{wordRowSpan, marksSpan, wordSpan, numbersSpan, Laid, wordIn}
-use Rattle.lent.proofs.Buffer.{length-part}
-use Rattle.lent.proofs.Changes.{changed-none, changed-wider, changed-then}
-use Rattle.lent.proofs.Work.{laid-as, word-kept}
+use Rattle.lent.specs.Buffer.{numberAt, numbersAt, storedNumber}
+use Rattle.lent.specs.Work.{wordRowSpan, marksSpan, wordSpan, numbersSpan, repairedSpan, Laid, wordIn}
+use Rattle.lent.proofs.Buffer.{length-part, length-numbers, numbers-none, numbers-last, numbers-same, stored-there, stored-other}
+use Rattle.lent.proofs.Changes.{changed-none, changed-wider, changed-then, changed-stored}
+use Rattle.lent.proofs.Work.{laid-as, word-inside, word-kept}
 use Rattle.checks.specs.Checks.{standsIn, checksIn}
-use Rattle.checks.proofs.Checks.{checks-kept, unmet-kept}
+use Rattle.checks.proofs.Checks.{checks-kept}
 use Rattle.syndrome.specs.Syndrome.{Marked, Judged}
+use Rattle.syndrome.proofs.Marks.{marked-kept}
 use Rattle.balances.specs.Balances.{Balanced, Weighed}
-use Rattle.mending.specs.Mending.{BitsIn, BitTurned, MendedBy}
+use Rattle.balances.proofs.Balances.{balanced-kept}
+use Rattle.mending.specs.Mending.{BitsIn, BitTurned, RuleRun, MendedBy}
 
 -- ---- over words
 
--- the run from a word has come to another, in which `left` checks are unmet
-pub record RunTo (cs : List (List ℕ)) (from now : List ℕ) (left repairs : ℕ) : Type 0 where
+-- the run from a word has come to another, with these repairs so far
+pub record RunTo (cs : List (List ℕ)) (from now sofar : List ℕ) : Type 0 where
   pub bits : AllBits now
-  pub left-is : left ≡ unmetCount cs now
-  pub repairs-more : repairs + length (repairsOf cs now) ≡ length (repairsOf cs from)
+  pub turns : sofar ++ repairsOf cs now ≡ repairsOf cs from
   pub same-last : lastWord cs now ≡ lastWord cs from
-  pub bounded : repairs + left ≤ unmetCount cs from
+  pub bounded : length sofar + unmetCount cs now ≤ unmetCount cs from
+
+run-start : (cs : List (List ℕ)) (w : List ℕ) → AllBits w → RunTo cs w w []
+run-start cs w bits = record { bits = bits; turns = refl; same-last = refl; bounded = omega arith }
 
 goes-on : (cs : List (List ℕ)) (w : List ℕ) → 0 < unmetCount cs w → suspect cs w < length w → ends cs w ≡ false
 unfolding ends
 goes-on cs w h g = rw (ne-eqb (unmetCount cs w) 0 (λ e. omega arith), ne-eqb (suspect cs w) (length w) (λ e. omega arith)) refl
 
-module _ {cs : List (List ℕ)} {from now : List ℕ} {left repairs : ℕ} (r : RunTo cs from now left repairs) where
-  -- The suspect bit is turned: fewer checks are unmet, so that some were.
-  run-next : {later : List ℕ} {fewer : ℕ} → AllOnce cs → suspect cs now < length now
-      → later ≡ turned now (suspect cs now) → fewer ≡ unmetCount cs later
-      → RunTo cs from later fewer (repairs + 1) × (fewer < left)
-  run-next {later} once inside e f =
-      let j : ℕ = suspect cs now in
-      let less : unmetCount cs later < unmetCount cs now =
-      rw e (step-lowers cs now j once (r .bits) inside (suspect-lowest cs now inside .suspected)) in
+module _ {cs : List (List ℕ)} {from now sofar : List ℕ} (r : RunTo cs from now sofar) where
+  -- The suspect bit is turned: fewer checks are unmet.
+  run-next : {j : ℕ} {later : List ℕ} → AllOnce cs → LowestSuspect cs now j → later ≡ turned now j
+      → RunTo cs from later (sofar ++ (j ∷ [])) × (unmetCount cs later < unmetCount cs now)
+  run-next {j} {later} once low e =
+      let found : suspect cs now ≡ j = lowest-suspect cs now j low in
+      let less : unmetCount cs later < unmetCount cs now = rw e (step-lowers cs now j once (r .bits) (low .inside) (low .suspected)) in
+      let ongoing : ends cs now ≡ false = goes-on cs now (omega arith) (rw found (low .inside)) in
       let more : (repairsOf cs now ≡ j ∷ repairsOf cs later) × (lastWord cs now ≡ lastWord cs later) =
-      rw e (run-goes cs now once (r .bits) (goes-on cs now (omega arith) inside)) in
-      let one : length (repairsOf cs now) ≡ suc (length (repairsOf cs later)) = ap length (more .0) in (
+      rw (e, ← found) (run-goes cs now once (r .bits) ongoing) in (
         record {
           bits = subst⁻¹ AllBits e (turned-bits now j (r .bits));
-          left-is = f;
-          repairs-more = omega (arith, r .repairs-more);
+          turns = append-assoc sofar (j ∷ []) (repairsOf cs later) ∙ ap (λ (js : List ℕ). sofar ++ js) (sym (more .0)) ∙ r .turns;
           same-last = sym (more .1) ∙ r .same-last;
-          bounded = omega (arith, r .left-is, r .bounded);
+          bounded = omega (arith, r .bounded, length-append sofar (j ∷ []));
         },
-        omega (arith, r .left-is),
+        less,
       )
 
   -- the rule ends
-  run-done : Ended cs now → (now ≡ lastWord cs from) × (repairs ≡ length (repairsOf cs from))
+  run-done : Ended cs now → (now ≡ lastWord cs from) × (sofar ≡ repairsOf cs from)
   run-done e =
       let over : (repairsOf cs now ≡ []) × (lastWord cs now ≡ now) = run-ends cs now (ended-ends cs now e) in
-      let none : length (repairsOf cs now) ≡ 0 = ap length (over .0) in
-      (sym (over .1) ∙ r .same-last, omega (arith, r .repairs-more))
+      (sym (over .1) ∙ r .same-last, sym (append-nil sofar) ∙ ap (λ (js : List ℕ). sofar ++ js) (sym (over .0)) ∙ r .turns)
 
--- ---- over the work buffer
+-- ---- a step over the work buffer
 
--- No more checks are unmet than there are.
-unmet-few : (k n : ℕ) (a : BitMatrix) (w : List ℕ) → unmetCount (checksOf k n a) w ≤ k
-unfolding checksOf
-unmet-few k n a w = omega (arith, unmet-most (checksOf k n a) w, length-tabulate k (checkOf n a))
+module _ (a : Areas) (work : List ℕ) {j : ℕ} (laid : Laid a (length work)) (found : j ≡ suspect (checksIn a work) (wordIn a work)) where
+  long : length (wordIn a work) ≡ a .gross
+  long = length-part work (a .word) (a .gross) (word-inside laid)
+
+  -- the search found no bit: the rule has ended
+  pub none-found : j ≡ a .gross → Ended (checksIn a work) (wordIn a work)
+  none-found none = inr (suspect-none (checksIn a work) (wordIn a work) (sym found ∙ none ∙ sym long))
+
+  -- it found one
+  pub found-inside : (j ≡ a .gross → ⊥) → j < a .gross
+  found-inside some =
+      let most : j ≤ a .gross = omega (arith, found, suspect-to (checksIn a work) (wordIn a work), long) in
+      elim (decLt j (a .gross)) [
+        | yes h ↦ h
+        | no h ↦ absurd (some (omega arith))
+      ]
+
+  pub found-lowest : (j ≡ a .gross → ⊥) → LowestSuspect (checksIn a work) (wordIn a work) j
+  found-lowest some =
+      subst⁻¹ (LowestSuspect (checksIn a work) (wordIn a work)) found
+      (suspect-lowest (checksIn a work) (wordIn a work) (omega (arith, found, long, found-inside some)))
+
+-- ---- the run over the work buffer
+
+-- the places of one bit more
+places-last : (js : List ℕ) (j : ℕ) → placesOf (js ++ (j ∷ [])) ≡ placesOf js ++ (suc j ∷ [])
+unfolding placesOf
+places-last js j = map-append suc js (j ∷ [])
+
+-- the run over the buffer, with the list of repairs so far
+pub record MendedTo (a : Areas) (start work : List ℕ) (repairs : ℕ) : Type 0 where
+  pub laid : Laid a (length work)
+  pub changed : Changed (marksSpan a ∷ wordSpan a ∷ numbersSpan a ∷ repairedSpan a ∷ []) start work
+  pub marked : Marked a work
+  pub balanced : Balanced a work
+  pub sofar : List ℕ
+  pub run : RunTo (checksIn a start) (wordIn a start) (wordIn a work) sofar
+  pub places : numbersAt work (a .repaired) repairs ≡ placesOf sofar
+
+-- it starts with marks and balances made
+pub mended-start : {a : Areas} {start : List ℕ} → Laid a (length start) → BitsIn a start → Marked a start → Balanced a start
+    → MendedTo a start start 0
+unfolding placesOf
+mended-start {a} {start} laid bits marked balanced =
+    record {
+      laid = laid;
+      changed = changed-none (marksSpan a ∷ wordSpan a ∷ numbersSpan a ∷ repairedSpan a ∷ []) start;
+      marked = marked;
+      balanced = balanced;
+      sofar = [];
+      run = run-start (checksIn a start) (wordIn a start) bits;
+      places = numbers-none start (a .repaired);
+    }
+
+module _ {a : Areas} {start work : List ℕ} {repairs : ℕ} (m : MendedTo a start work repairs) where
+  -- so many repairs are in the list
+  many : repairs ≡ length (m .sofar)
+  many = sym (length-numbers work (a .repaired) repairs) ∙ ap length (m .places) ∙ length-places (m .sofar)
+
+  -- the checks are those at the start
+  same-checks : checksIn a work ≡ checksIn a start
+  same-checks = let laid = m .laid in checks-kept laid (m .changed) (λ q l g. omega arith)
+
+  -- the rule ends
+  pub mended-all : Ended (checksIn a work) (wordIn a work) → RuleRun a start work repairs
+  mended-all over =
+      let ended : Ended (checksIn a start) (wordIn a work) = rw same-checks at over in
+      let done = run-done (m .run) ended in
+      record {
+        changed = m .changed;
+        word-is = done .0;
+        repairs-are = many ∙ ap length (done .1);
+        places-are = m .places ∙ ap placesOf (done .1);
+        marked = m .marked;
+      }
+
+  -- a step turns a bit
+  module _ {j : ℕ} {turnedOnce : List ℕ} (low : LowestSuspect (checksIn a work) (wordIn a work) j)
+      (t : BitTurned a j work turnedOnce) where
+    -- the run goes on, with fewer checks unmet
+    onward : RunTo (checksIn a start) (wordIn a start) (wordIn a turnedOnce) (m .sofar ++ (j ∷ []))
+        × (unmetCount (checksIn a start) (wordIn a turnedOnce) < unmetCount (checksIn a start) (wordIn a work))
+    onward =
+        run-next (m .run) (checks-once (a .checks) (a .gross) (standsIn a start))
+        (subst (λ (cs : List (List ℕ)). LowestSuspect cs (wordIn a work) j) same-checks low) (t .word-is)
+
+    -- there is room for its place in the list, which has one for each check: each repair lowers the number of unmet ones
+    pub place-room : repairs < a .checks
+    place-room =
+        omega (arith, many, m .run .bounded, onward .1, unmet-few (a .checks) (a .gross) (standsIn a start) (wordIn a start))
+
+    -- its place is stored behind the others
+    module _ {later : List ℕ} (e : later ≡ storedNumber turnedOnce (a .repaired + 2 * repairs) (j + 1)) where
+      here : Laid a (length turnedOnce)
+      here = laid-as (m .laid) (t .changed .long)
+
+      stored : Changed (repairedSpan a ∷ []) turnedOnce later
+      stored =
+          let laid = m .laid in
+          rw e
+          (changed-stored (changed-none (repairedSpan a ∷ []) turnedOnce) (a .repaired + 2 * repairs) (j + 1)
+          (λ o. omega (arith, place-room, o .0 (omega arith))) (λ o. omega (arith, place-room, o .0 (omega arith))))
+
+      word-stays : wordIn a later ≡ wordIn a turnedOnce
+      word-stays = let laid = here in word-kept laid stored (λ q l g. omega arith)
+
+      places-more : numbersAt later (a .repaired) (repairs + 1) ≡ placesOf (m .sofar ++ (j ∷ []))
+      places-more =
+          let laid = m .laid in
+          let at : ℕ = a .repaired in
+          let before : numbersAt later at repairs ≡ numbersAt work at repairs =
+          rw e
+          (numbers-same work (storedNumber turnedOnce (at + 2 * repairs) (j + 1)) at repairs
+          (λ i l g.
+          stored-other turnedOnce (at + 2 * repairs) (j + 1) i (λ f. omega arith) (λ f. omega arith)
+          ∙ t .changed .kept i (omega arith))) in
+          let new : numberAt later (at + 2 * repairs) ≡ suc j =
+          rw e (stored-there turnedOnce (at + 2 * repairs) (j + 1) (omega (arith, place-room, here .repaired-end)) ∙ add-one j) in
+          numbers-last later at repairs
+          ∙ ap₂ (λ (xs : List ℕ) (v : ℕ). xs ++ (v ∷ [])) (before ∙ m .places) new
+          ∙ sym (places-last (m .sofar) j)
+
+      pub mended-next : MendedTo a start later (repairs + 1)
+          × (unmetCount (checksIn a start) (wordIn a later) < unmetCount (checksIn a start) (wordIn a work))
+      mended-next =
+          let laid = here in (
+            record {
+              laid = laid-as laid (stored .long);
+              changed =
+                  changed-then (changed-then (m .changed) (changed-wider (t .changed) (λ q o. (o .0, (o .1 .0, (o .1 .1 .0, tt))))))
+                  (changed-wider stored (λ q o. o .1 .1 .1));
+              marked = marked-kept laid stored (λ q l g. omega arith) (λ q l g. omega arith) (λ q l g. omega arith) (t .marked);
+              balanced = balanced-kept laid stored (λ q l g. omega arith) (λ q l g. omega arith) (λ q l g. omega arith) (t .balanced);
+              sofar = m .sofar ++ (j ∷ []);
+              run = rw word-stays (onward .0);
+              places = places-more;
+            },
+            rw word-stays (onward .1),
+          )
+
+-- ---- the word mended
 
 -- marks and balances are made, and nothing else is changed but the row behind the rows
 pub record Ready (a : Areas) (before after : List ℕ) (first : ℕ) : Type 0 where
@@ -93,10 +232,7 @@ ready {a} {middle = middle} laid m w =
     record {
       changed =
           changed-then (changed-wider (m .changed) (λ q o. (o .0, (o .1 .0, tt)))) (changed-wider (w .changed) (λ q o. o .1 .1));
-      marked = λ i h.
-          w .changed .kept (a .marks + i) (omega arith)
-          ∙ m .marked i h
-          ∙ sym (unmet-kept here (w .changed) (λ q l g. omega arith) (λ q l g. omega arith) i h);
+      marked = marked-kept here (w .changed) (λ q l g. omega arith) (λ q l g. omega arith) (λ q l g. omega arith) (m .marked);
       balanced = w .balanced;
       first-is = m .number-is;
     }
@@ -109,100 +245,41 @@ module _ {a : Areas} {before start : List ℕ} {first : ℕ} (laid : Laid a (len
   ready-word : wordIn a start ≡ wordIn a before
   ready-word = word-kept laid (r .changed) (λ q l g. omega arith)
 
--- the run over the buffer, from its marked state on
-pub record MendedTo (a : Areas) (start work : List ℕ) (left repairs : ℕ) : Type 0 where
-  pub laid : Laid a (length work)
-  pub changed : Changed (marksSpan a ∷ wordSpan a ∷ numbersSpan a ∷ []) start work
-  pub marked : Marked a work
-  pub balanced : Balanced a work
-  pub run : RunTo (checksIn a start) (wordIn a start) (wordIn a work) left repairs
+  -- what running the rule asks for
+  pub ready-bits : BitsIn a before → Laid a (length start) × BitsIn a start × Marked a start × Balanced a start
+  ready-bits bits = (laid-as laid (r .changed .long), subst⁻¹ AllBits ready-word bits, r .marked, r .balanced)
 
--- it starts with marks and balances made
-pub mended-start : {a : Areas} {before start : List ℕ} {first : ℕ} → Laid a (length before) → BitsIn a before → Ready a before start first
-    → MendedTo a start start first 0
-mended-start {a} {start = start} laid bits r =
+-- Marks and balances were made, the rule was run, and `left` checks are unmet then.
+pub mended-run : {a : Areas} {before start after : List ℕ} {first repairs left : ℕ} → Laid a (length before) → BitsIn a before
+    → Ready a before start first → RuleRun a start after repairs → left ≡ unmetCount (checksIn a after) (wordIn a after)
+    → MendedBy a before after repairs first (ltb 0 left)
+unfolding stuck
+mended-run {a} {before} {start} {after} {repairs = repairs} laid bits r m e =
+    let cs : List (List ℕ) = checksIn a before in
+    let w : List ℕ = wordIn a before in
+    let there = laid-as laid (r .changed .long) in
+    let checks : checksIn a start ≡ cs = ready-checks laid r in
+    let word : wordIn a start ≡ w = ready-word laid r in
+    let last : wordIn a after ≡ lastWord cs w = m .word-is ∙ ap₂ lastWord checks word in
+    let repaired : repairsOf (checksIn a start) (wordIn a start) ≡ repairsOf cs w = ap₂ repairsOf checks word in
+    let counted : repairs ≡ length (repairsOf cs w) = m .repairs-are ∙ ap length repaired in
     record {
-      laid = laid-as laid (r .changed .long);
-      changed = changed-none (marksSpan a ∷ wordSpan a ∷ numbersSpan a ∷ []) start;
-      marked = r .marked;
-      balanced = r .balanced;
-      run = record {
-        bits = subst⁻¹ AllBits (ready-word laid r) bits;
-        left-is = r .first-is ∙ sym (ap₂ unmetCount (ready-checks laid r) (ready-word laid r));
-        repairs-more = omega arith;
-        same-last = refl;
-        bounded = omega (arith, r .first-is, ap₂ unmetCount (ready-checks laid r) (ready-word laid r));
-      };
+      changed =
+          changed-then (changed-wider (r .changed) (λ q o. (o .0, (o .1 .0, (o .1 .1 .1 .0, tt)))))
+          (changed-wider (m .changed) (λ q o. o .1));
+      word-is = last;
+      repairs-are = counted;
+      places-are = m .places-are ∙ ap placesOf repaired;
+      first-is = r .first-is;
+      bounded = omega (arith, counted, r .first-is, repairs-bounded cs w (checks-once (a .checks) (a .gross) (standsIn a before)) bits);
+      stuck-is = ap (ltb 0) (e ∙ ap₂ unmetCount (checks-kept there (m .changed) (λ q l g. omega arith) ∙ checks) last);
+      marked = m .marked;
     }
-
-module _ {a : Areas} {start work : List ℕ} {left repairs : ℕ} (m : MendedTo a start work left repairs) where
-  long : length (wordIn a work) ≡ a .gross
-  long = length-part work (a .word) (a .gross) (omega (arith, m .laid))
-
-  -- the checks are those at the start
-  same-checks : checksIn a work ≡ checksIn a start
-  same-checks = let laid = m .laid in checks-kept laid (m .changed) (λ q l g. omega arith)
-
-  -- the search for the suspect bit ends no later than the word
-  pub suspect-most : {j : ℕ} → j ≡ suspect (checksIn a work) (wordIn a work) → j ≤ a .gross
-  suspect-most e = omega (arith, suspect-to (checksIn a work) (wordIn a work), long)
-
-  -- there are no more repairs than there can be checks
-  pub repairs-few : repairs ≤ 4096
-  repairs-few = omega (arith, m .laid, m .run .bounded, unmet-few (a .checks) (a .gross) (standsIn a start) (wordIn a start))
-
-  -- the suspect bit is turned: fewer checks are unmet
-  pub mended-next : {j fewer : ℕ} {later : List ℕ} → j < a .gross → j ≡ suspect (checksIn a work) (wordIn a work)
-      → BitTurned a j work later → fewer ≡ unmetCount (checksIn a later) (wordIn a later)
-      → MendedTo a start later fewer (repairs + 1) × (fewer < left)
-  mended-next {j} {later = later} inside e t f =
-      let w : List ℕ = wordIn a work in
-      let laid = m .laid in
-      let changes : Changed (marksSpan a ∷ wordSpan a ∷ numbersSpan a ∷ []) start later = changed-then (m .changed) (t .changed) in
-      let found : j ≡ suspect (checksIn a start) w = e ∙ ap (λ (cs : List (List ℕ)). suspect cs w) same-checks in
-      let later-checks : checksIn a later ≡ checksIn a start = checks-kept laid changes (λ q l g. omega arith) in
-      let goes = run-next (m .run) (checks-once (a .checks) (a .gross) (standsIn a start))
-      (omega (arith, found, long))
-      (t .word-is ∙ ap (turned w) found)
-      (f ∙ ap (λ (cs : List (List ℕ)). unmetCount cs (wordIn a later)) later-checks) in (
-        record {
-          laid = laid-as laid (t .changed .long);
-          changed = changes;
-          marked = t .marked;
-          balanced = t .balanced;
-          run = goes .0;
-        },
-        goes .1,
-      )
-
-  -- the rule ends: no check is unmet, or no bit is suspect
-  pub mended-all : {before : List ℕ} {first : ℕ} → Laid a (length before) → Ready a before start first
-      → (left ≡ 0) ⊎ (suspect (checksIn a work) (wordIn a work) ≡ a .gross) → MendedBy a before work repairs first (ltb 0 left)
-  unfolding stuck
-  mended-all {before} laid r over =
-      let cs : List (List ℕ) = checksIn a start in
-      let w : List ℕ = wordIn a work in
-      let checks : cs ≡ checksIn a before = ready-checks laid r in
-      let word : wordIn a start ≡ wordIn a before = ready-word laid r in
-      let ended : Ended cs w =
-      ⊎-elim (λ none. inl (omega (arith, m .run .left-is)))
-      (λ none. inr (suspect-none cs w (sym (ap (λ (c : List (List ℕ)). suspect c w) same-checks) ∙ none ∙ sym long))) over in
-      let done : (w ≡ lastWord cs (wordIn a start)) × (repairs ≡ length (repairsOf cs (wordIn a start))) = run-done (m .run) ended in
-      record {
-        changed =
-            changed-then (changed-wider (r .changed) (λ q o. (o .0, (o .1 .0, o .1 .1 .1)))) (changed-wider (m .changed) (λ q o. o .1));
-        word-is = done .0 ∙ ap₂ lastWord checks word;
-        repairs-are = done .1 ∙ ap₂ (λ (c : List (List ℕ)) (v : List ℕ). length (repairsOf c v)) checks word;
-        first-is = r .first-is;
-        bounded = omega (arith, m .run .bounded, r .first-is, ap₂ unmetCount checks word);
-        stuck-is = ap (ltb 0) (m .run .left-is ∙ ap (unmetCount cs) (done .0)) ∙ ap₂ stuck checks word;
-        marked = m .marked;
-      }
 
 -- No check is unmet at the start: the rule ends there.
 pub mended-none : {a : Areas} {before start : List ℕ} {first : ℕ} → Laid a (length before) → Judged a before start first → first ≡ 0
     → MendedBy a before start 0 0 false
-unfolding stuck
+unfolding stuck placesOf
 mended-none {a} {before} {start} laid k none =
     let cs : List (List ℕ) = checksIn a before in
     let met : 0 ≡ unmetCount cs (wordIn a before) = sym none ∙ k .number-is in
@@ -212,6 +289,7 @@ mended-none {a} {before} {start} laid k none =
       changed = changed-wider (k .changed) (λ q o. (o .0, (o .1 .0, tt)));
       word-is = word-kept laid (k .changed) (λ q l g. omega arith) ∙ sym (over .1);
       repairs-are = sym (ap length (over .0));
+      places-are = numbers-none start (a .repaired) ∙ sym (ap placesOf (over .0));
       first-is = met;
       bounded = omega arith;
       stuck-is = ap (ltb 0) (met ∙ ap (unmetCount cs) (sym (over .1)));

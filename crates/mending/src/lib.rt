@@ -1,6 +1,7 @@
 // Document 01's mending rule over the checks in the work buffer: while some check is unmet, the
 // lowest-numbered bit that stands in more unmet than met checks is turned. Marks and balances (`syndrome`,
-// `balances`) are kept up to date from step to step.
+// `balances`) are kept up to date from step to step, and each step answers the bit that it turned: its place
+// goes to the area of the places in the work buffer.
 use lent::Areas;
 ghost use Prim.Native.Nat.{_<_};
 ghost use mathlib.Core.Path.{_≡_};
@@ -10,7 +11,7 @@ ghost use Rattle.lent.specs.Work.{Laid, wordIn};
 ghost use Rattle.checks.specs.Checks.{checksIn};
 ghost use Rattle.syndrome.specs.Syndrome.{Marked};
 ghost use Rattle.balances.specs.Balances.{Balanced};
-ghost use Rattle.mending.specs.Mending.{BitsIn, BitTurned, MendedBy};
+ghost use Rattle.mending.specs.Mending.{BitsIn, BitTurned, Stepped, RuleRun, MendedBy};
 
 // What mending answers: the number of repairs, that of the checks unmet at the start, and whether the
 // word is stuck.
@@ -18,6 +19,12 @@ pub struct Mended {
     pub repairs: usize,
     pub unmet: usize,
     pub stuck: bool,
+}
+
+// What a step of the rule answers: the bit that it turned, or that the rule has ended.
+enum Step {
+    Turned(usize),
+    End,
 }
 
 // The lowest-numbered bit that stands in more unmet than met checks, and `gross` where there is none. A
@@ -62,7 +69,36 @@ fn turn_bit(work: &mut [u8], a: Areas, j: usize)
     work[at] = 1 - work[at];
 }
 
-// Mends the word by the rule, run to its end.
+// One step of the rule.
+fn take_step(work: &mut [u8], a: Areas) -> Step
+    requires { ⌜ Laid a (length (now work)) × BitsIn a (now work) × Marked a (now work) × Balanced a (now work) ⌝ }
+    ensures { λ r. ⌜ Stepped a (now (work .entry)) (now (work .exit)) r ⌝ }
+{
+    let j = find_suspect(work, a);
+    if j == a.gross {
+        return Step::End;
+    }
+    turn_bit(work, a, j);
+    Step::Turned(j)
+}
+
+// Runs the rule to its end, storing the place of each repair behind those before. Answers how many there are.
+fn run_rule(work: &mut [u8], a: Areas) -> usize
+    requires { ⌜ Laid a (length (now work)) × BitsIn a (now work) × Marked a (now work) × Balanced a (now work) ⌝ }
+    ensures { λ r. ⌜ RuleRun a (now (work .entry)) (now (work .exit)) r ⌝ }
+{
+    let mut repairs = 0usize;
+    loop {
+        let Step::Turned(j) = take_step(work, a) else {
+            break;
+        };
+        lent::put_number(work, a.repaired + 2 * repairs, j + 1);
+        repairs += 1;
+    }
+    repairs
+}
+
+// Mends the word by the rule, run to its end. The places of the repairs are left in the buffer.
 pub fn mend(work: &mut [u8], a: Areas) -> Mended
     requires { ⌜ Laid a (length (now work)) × BitsIn a (now work) ⌝ }
     ensures { λ r. ⌜ MendedBy a (now (work .entry)) (now (work .exit)) (r .repairs) (r .unmet) (r .stuck) ⌝ }
@@ -76,17 +112,8 @@ pub fn mend(work: &mut [u8], a: Areas) -> Mended
         };
     }
     balances::weigh(work, a);
-    let mut left = first;
-    let mut repairs = 0usize;
-    while 0 < left {
-        let j = find_suspect(work, a);
-        if j == a.gross {
-            break;
-        }
-        turn_bit(work, a, j);
-        repairs += 1;
-        left = syndrome::count_unmet(work, a);
-    }
+    let repairs = run_rule(work, a);
+    let left = syndrome::count_unmet(work, a);
     Mended {
         repairs: repairs,
         unmet: first,

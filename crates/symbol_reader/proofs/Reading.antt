@@ -1,17 +1,19 @@
--- The answers of the stages and the message buffer at exit: what a refusal of 7, 9 or 10 gives, and what the stage behind hands on.
+-- The answers of the stages, and the message buffer and the places at exit: what a refusal of 7, 9, 16 or 10 gives, and what the stage
+-- behind hands on.
 -- Assumes nothing.
-use Prim.Native.Nat.{ℕ, _≤_, _<_}
+use Prim.Native.Nat.{ℕ, _+_, _*_, _≤_, _<_}
 use mathlib.Core.Path.{_≡_, refl, sym, ap, ap₂, _∙_}
 use mathlib.Core.Bool.{Bool, true, false}
 use mathlib.Core.List.{List, [], _∷_}
 use native.Mathlib.Omega.{arith}
 use lib.ListN.{length, take, drop}
+use lib.Seq.{sets}
 use borrow.Author.Tests.{lt-ltb, le-ltb}
 use Rattle.symbology.specs.declared.Params.{Params}
 use Rattle.symbology.specs.declared.Sizes.{Sizes}
 use Rattle.symbology.specs.Capacity.{sizesFor}
 use Rattle.symbology.specs.Bits.{anyOne}
-use Rattle.symbology.specs.Rule.{lastWord, stuck}
+use Rattle.symbology.specs.Rule.{repairsOf, placesOf, lastWord, stuck}
 use Rattle.symbology.specs.Code.{matrixFor, checksFor, messageBitsFor}
 use Rattle.symbology.specs.Placement.{firstBadModule}
 use Rattle.symbology.specs.Symbol.{receivedWord, wrongStuffing}
@@ -20,18 +22,22 @@ use Rattle.calls.specs.declared.StreamAnswer.{StreamAnswer}
 use Rattle.calls.specs.declared.ReadAnswer.{ReadAnswer}
 use Rattle.calls.specs.Answers.{counted, refused, fromStream}
 use Rattle.calls.specs.Tests.{firstOf, spareOne, badModule, frontRows, earlyRows, isLegal}
-use Rattle.calls.specs.Read.{messageInAccepted, messageInNet, messageIn, frontAfter, streamAnswer}
+use Rattle.calls.specs.Read.{messageInAccepted, messageInNet, messageIn, placesIn, frontAfter, streamAnswer}
 use Rattle.calls.specs.Read.{answerFromAccepted, mendedCounts, answerFromReceived, receivedCounts, readAnswer}
+use Rattle.laws.proofs.Rule.{unmet-few}
 use Rattle.call_laws.proofs.Tests.{first-append, first-hit, first-miss, first-none, first-passed}
-use Rattle.call_laws.proofs.Stages.{accepted-stream, accepted-spare, from-stuck, from-mended}
+use Rattle.call_laws.proofs.Stages.{accepted-stream, accepted-spare, from-stuck, from-short, from-mended}
 use Rattle.call_laws.proofs.Answers.{refused-front}
 use Rattle.lent.specs.declared.Areas.{Areas}
-use Rattle.lent.specs.Work.{RoomFor, wordIn, netIn}
-use Rattle.lent.proofs.Work.{net-areas}
+use Rattle.lent.specs.Changes.{Changed}
+use Rattle.lent.specs.Buffer.{numbersAt}
+use Rattle.lent.specs.Work.{rowsSpan, marksSpan, numbersSpan, netSpan, RoomFor, wordIn, netIn}
+use Rattle.lent.proofs.Buffer.{numbers-same}
+use Rattle.lent.proofs.Work.{repaired-inside, room-laid, net-areas}
 use Rattle.coding.specs.Stages.{WordMended, MessageTaken}
 use Rattle.ldpc.proofs.Stages.{checks-for, message-for}
 use Rattle.stream_reader.specs.Reading.{NetRead}
-use Rattle.symbol_reader.specs.Stages.{Answered}
+use Rattle.symbol_reader.specs.Stages.{Answered, AnsweredWithPlaces}
 
 -- a refusal that is the defined answer, and a buffer as it came
 refusal : (message before : List ℕ) {defined k a : ReadAnswer} → (k .number ≡ 0 → ⊥) → a ≡ k → defined ≡ k
@@ -39,6 +45,13 @@ refusal : (message before : List ℕ) {defined k a : ReadAnswer} → (k .number 
 refusal message before {a = a} some e same =
     let other : a .number ≡ 0 → ⊥ = λ z. some (sym (ap (λ (x : ReadAnswer). x .number) e) ∙ z) in
     record { answer-is = e ∙ sym same; message-is = sym (refused-front (a .number) message before other) }
+
+-- with the places as they came
+refusal-with : (message places before slice : List ℕ) {defined k a : ReadAnswer} → (k .number ≡ 0 → ⊥) → a ≡ k → defined ≡ k
+    → AnsweredWithPlaces defined message places before slice a before slice
+refusal-with message places before slice {a = a} some e same =
+    let other : a .number ≡ 0 → ⊥ = λ z. some (sym (ap (λ (x : ReadAnswer). x .number) e) ∙ z) in
+    record { answered = refusal message before some e same; places-are = sym (refused-front (a .number) places slice other) }
 
 -- ---- from the accepted word
 
@@ -83,14 +96,34 @@ module _ {s : Sizes} {a : Areas} {room : ℕ} {before after : List ℕ} {spare :
   pub net-told : netIn a after ≡ take (s .net) (messageBitsFor s (wordIn a before))
   net-told = t .message-is ∙ ap₂ take (net-areas r) (message-for r (wordIn a before))
 
+-- ---- the places of the repairs
+
+module _ {s : Sizes} {a : Areas} {before after : List ℕ} (r : RoomFor s a (length before)) (n : ℕ) (few : n ≤ a .checks)
+    (c : Changed (rowsSpan a ∷ marksSpan a ∷ numbersSpan a ∷ netSpan a ∷ []) before after) where
+  -- they lie in the buffer that the message was taken into
+  pub places-inside : a .repaired + 2 * n ≤ length after
+  places-inside = omega (arith, repaired-inside (room-laid r), c .long)
+
+  -- and are there as they were
+  places-kept : numbersAt after (a .repaired) n ≡ numbersAt before (a .repaired) n
+  places-kept = let laid = room-laid r in numbers-same before after (a .repaired) n (λ i l g. c .kept i (omega arith))
+
+  -- on 0 they are stored
+  pub stored-places : (slice : List ℕ) {number : ℕ} {stored : List ℕ} → number ≡ 0 → stored ≡ sets slice 0 (numbersAt after (a .repaired) n)
+      → stored ≡ frontAfter number (numbersAt before (a .repaired) n) slice
+  unfolding frontAfter
+  stored-places slice zero-is e = e ∙ ap (sets slice 0) places-kept ∙ rw zero-is refl
+
 -- ---- from the received word
 
-module _ (s : Sizes) (w : List ℕ) (got : Counts) (room : ℕ) (before : List ℕ) where
-  abbrev FromReceived : ReadAnswer → List ℕ → Type 0
-  FromReceived a after = Answered (answerFromReceived s w got room) (messageInAccepted s (lastWord (checksFor s) w)) before a after
+module _ (s : Sizes) (w : List ℕ) (got : Counts) (room : ℕ) (before slice : List ℕ) where
+  abbrev FromReceived : ReadAnswer → List ℕ → List ℕ → Type 0
+  FromReceived a after stored =
+      AnsweredWithPlaces (answerFromReceived s w got room (length slice)) (messageInAccepted s (lastWord (checksFor s) w))
+      (placesOf (repairsOf (checksFor s) w)) before slice a after stored
 
 module _ {s : Sizes} {a : Areas} {size : ℕ} {work mended : List ℕ} {repairs unmet : ℕ} {isStuck : Bool} (r : RoomFor s a size)
-    (m : WordMended a (matrixFor s) work mended repairs unmet isStuck) (got : Counts) (room : ℕ) (before : List ℕ) where
+    (m : WordMended a (matrixFor s) work mended repairs unmet isStuck) (got : Counts) (room : ℕ) (before slice : List ℕ) where
   abbrev w : List ℕ
   w = wordIn a work
 
@@ -100,39 +133,74 @@ module _ {s : Sizes} {a : Areas} {size : ℕ} {work mended : List ℕ} {repairs 
   counts-are : counts ≡ mendedCounts s w got
   counts-are = rw (m .repairs-are, m .first-is, checks-for r) refl
 
+  many : repairs ≡ length (repairsOf (checksFor s) w)
+  many = ap (λ (c : Counts). c .repairs) counts-are
+
   stuck-told : isStuck ≡ stuck (checksFor s) w
   stuck-told = m .stuck-is ∙ ap (λ (cs : List (List ℕ)). stuck cs w) (checks-for r)
 
   last-is : wordIn a mended ≡ lastWord (checksFor s) w
   last-is = m .word-is ∙ ap (λ (cs : List (List ℕ)). lastWord cs w) (checks-for r)
 
-  -- 9: stuck
-  pub stuck-word : {answer : ReadAnswer} → isStuck ≡ true → answer ≡ counted counts 9 0 → FromReceived s w got room before answer before
-  stuck-word t e =
-      refusal (messageInAccepted s (lastWord (checksFor s) w)) before (λ z. omega arith) e
-      (from-stuck s w got room (sym stuck-told ∙ t) ∙ ap (λ (c : Counts). counted c 9 0) (sym counts-are))
+  listed : numbersAt mended (a .repaired) repairs ≡ placesOf (repairsOf (checksFor s) w)
+  listed = m .places-are ∙ ap (λ (cs : List (List ℕ)). placesOf (repairsOf cs w)) (checks-for r)
 
-  -- not stuck
-  pub mended-word : {answer : ReadAnswer} {after : List ℕ} → isStuck ≡ false
-      → FromAccepted s (wordIn a mended) counts room before answer after → FromReceived s w got room before answer after
-  mended-word {answer} t read =
+  -- the list has room for them
+  pub repairs-few : repairs ≤ a .checks
+  repairs-few = omega (arith, m .bounded, m .first-is, unmet-few (a .checks) (a .gross) (matrixFor s) w)
+
+  -- 9 or 16, where it is the defined answer
+  refused-late : (number : ℕ) {answer : ReadAnswer} → (number ≡ 0 → ⊥) → answer ≡ counted counts number 0
+      → answerFromReceived s w got room (length slice) ≡ counted (mendedCounts s w got) number 0
+      → FromReceived s w got room before slice answer before slice
+  refused-late number some e same =
+      refusal-with (messageInAccepted s (lastWord (checksFor s) w)) (placesOf (repairsOf (checksFor s) w)) before slice some e
+      (same ∙ ap (λ (c : Counts). counted c number 0) (sym counts-are))
+
+  -- 9: stuck
+  pub stuck-word : {answer : ReadAnswer} → isStuck ≡ true → answer ≡ counted counts 9 0
+      → FromReceived s w got room before slice answer before slice
+  stuck-word t e = refused-late 9 (λ z. omega arith) e (from-stuck s w got room (length slice) (sym stuck-told ∙ t))
+
+  -- 16: more repairs than places
+  pub short-places : {answer : ReadAnswer} → isStuck ≡ false → length slice < repairs → answer ≡ counted counts 16 0
+      → FromReceived s w got room before slice answer before slice
+  short-places t more e =
+      refused-late 16 (λ z. omega arith) e (from-short s w got room (length slice) (sym stuck-told ∙ t) (omega (arith, many)))
+
+  -- neither
+  pub mended-word : {answer : ReadAnswer} {after stored : List ℕ} → isStuck ≡ false → repairs ≤ length slice
+      → AnsweredWithPlaces (answerFromAccepted s (wordIn a mended) counts room) (messageInAccepted s (wordIn a mended))
+      (numbersAt mended (a .repaired) repairs) before slice answer after stored
+      → FromReceived s w got room before slice answer after stored
+  mended-word {answer} t few read =
       record {
-        answer-is = read .answer-is ∙ rw (last-is, counts-are) (sym (from-mended s w got room (sym stuck-told ∙ t)));
-        message-is = read .message-is ∙ ap (λ (x : List ℕ). frontAfter (answer .number) (messageInAccepted s x) before) last-is;
+        answered = record {
+          answer-is =
+              read .answered .answer-is
+              ∙ rw (last-is, counts-are) (sym (from-mended s w got room (length slice) (sym stuck-told ∙ t) (omega (arith, many))));
+          message-is =
+              read .answered .message-is ∙ ap (λ (x : List ℕ). frontAfter (answer .number) (messageInAccepted s x) before) last-is;
+        };
+        places-are = read .places-are ∙ ap (λ (x : List ℕ). frontAfter (answer .number) x slice) listed;
       }
 
 -- ---- from the matrix
 
-module _ (p : Params) (l matrix : List ℕ) (work room : ℕ) (before : List ℕ) (is-legal : isLegal p l (length matrix) work ≡ true) where
-  abbrev FromMatrix : ReadAnswer → List ℕ → Type 0
-  FromMatrix a after = Answered (readAnswer p l matrix work room) (messageIn p l matrix) before a after
+module _ (p : Params) (l matrix : List ℕ) (work room : ℕ) (before slice : List ℕ)
+    (is-legal : isLegal p l (length matrix) work ≡ true) where
+  abbrev defined : ReadAnswer
+  defined = readAnswer p l matrix work room (length slice)
+
+  abbrev FromMatrix : ReadAnswer → List ℕ → List ℕ → Type 0
+  FromMatrix a after stored = AnsweredWithPlaces defined (messageIn p l matrix) (placesIn p l matrix) before slice a after stored
 
   -- the answer behind the test 7
   abbrev onward : ReadAnswer
-  onward = answerFromReceived (sizesFor p l) (receivedWord p l matrix) (receivedCounts p l matrix) room
+  onward = answerFromReceived (sizesFor p l) (receivedWord p l matrix) (receivedCounts p l matrix) room (length slice)
 
   -- the tests 1 to 5 are passed
-  behind : readAnswer p l matrix work room ≡ firstOf refused (badModule p matrix ∷ []) onward
+  behind : defined ≡ firstOf refused (badModule p matrix ∷ []) onward
   unfolding readAnswer earlyRows isLegal
   behind =
       first-append refused (frontRows p l (length matrix) work) _ onward
@@ -140,26 +208,29 @@ module _ (p : Params) (l matrix : List ℕ) (work room : ℕ) (before : List ℕ
 
   -- 7: a module is N or more
   pub bad-module : {a : ReadAnswer} {bad : ℕ} → bad ≡ firstBadModule (p .colours) matrix → bad < length matrix → a ≡ refused 7 bad
-      → FromMatrix a before
+      → FromMatrix a before slice
   bad-module {a} {bad} is h e =
       let holds : badModule p matrix .test ≡ true = lt-ltb (firstBadModule (p .colours) matrix) (length matrix) (omega arith) in
-      refusal (messageIn p l matrix) before (λ z. omega arith) e
+      refusal-with (messageIn p l matrix) (placesIn p l matrix) before slice (λ z. omega arith) e
       (behind ∙ first-hit refused (badModule p matrix) [] onward holds ∙ rw is refl)
 
   -- none is
-  pub good-matrix : {bad : ℕ} {s : Sizes} {w after : List ℕ} {n : ℕ} {a : ReadAnswer}
+  pub good-matrix : {bad : ℕ} {s : Sizes} {w after stored : List ℕ} {n : ℕ} {a : ReadAnswer}
       → bad ≡ firstBadModule (p .colours) matrix
       → length matrix ≤ bad
       → s ≡ sizesFor p l
       → w ≡ receivedWord p l matrix
       → n ≡ wrongStuffing p l matrix
-      → FromReceived s w (record { repairs = 0; unmet = 0; stuffing = n }) room before a after
-      → FromMatrix a after
-  unfolding messageIn
-  good-matrix {bad} {s} {w} {after} {n} {a} is none sizes word wrong read =
+      → FromReceived s w (record { repairs = 0; unmet = 0; stuffing = n }) room before slice a after stored
+      → FromMatrix a after stored
+  unfolding messageIn placesIn
+  good-matrix {bad} {s} {w} {after} {stored} {n} {a} is none sizes word wrong read =
       let fails : badModule p matrix .test ≡ false = le-ltb (firstBadModule (p .colours) matrix) (length matrix) (omega arith) in
-      let passed : readAnswer p l matrix work room ≡ onward =
+      let passed : defined ≡ onward =
       behind ∙ first-miss refused (badModule p matrix) [] onward fails ∙ first-none refused onward in
-      let given : FromReceived (sizesFor p l) (receivedWord p l matrix) (receivedCounts p l matrix) room before a after =
+      let given : FromReceived (sizesFor p l) (receivedWord p l matrix) (receivedCounts p l matrix) room before slice a after stored =
       rw (sizes, word, wrong) at read in
-      record { answer-is = given .answer-is ∙ sym passed; message-is = given .message-is }
+      record {
+        answered = record { answer-is = given .answered .answer-is ∙ sym passed; message-is = given .answered .message-is };
+        places-are = given .places-are;
+      }

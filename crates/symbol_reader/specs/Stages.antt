@@ -1,4 +1,4 @@
--- What a stage of a read gives: the defined answer, and on 0 the message over the front of its buffer.
+-- What a stage of a read gives: the defined answer, and on 0 the message, and the places of the repairs, over the front of their buffers.
 -- Assumes nothing.
 use Prim.Native.Nat.{ℕ}
 use mathlib.Core.Path.{_≡_}
@@ -10,3 +10,9 @@ use Rattle.calls.specs.Read.{frontAfter}
 pub record Answered (defined : ReadAnswer) (message before : List ℕ) (a : ReadAnswer) (after : List ℕ) : Type 0 where
   pub answer-is : a ≡ defined
   pub message-is : after ≡ frontAfter (a .number) message before
+
+-- The same with the places of the repairs: `slice` and `stored` are the slice lent for them.
+pub record AnsweredWithPlaces (defined : ReadAnswer) (message places before slice : List ℕ) (a : ReadAnswer)
+    (after stored : List ℕ) : Type 0 where
+  pub answered : Answered defined message before a after
+  pub places-are : stored ≡ frontAfter (a .number) places slice

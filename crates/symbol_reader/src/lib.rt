@@ -1,10 +1,11 @@
 // The message of a sampled matrix: what a read does once the tests 1 to 5 are passed. The C bits are
 // received into the work buffer, the word is mended there, and the net bits are read from it.
 //
-// `jabcode::read` is the way in, and makes the tests before. The stages follow document 01's tests: 7, then
-// 9, then 10, then 11 to 14, which are `stream_reader::read_net`. The counts are handed on as one value, in
-// which each stage sets its own; `room` is the length that a message may have, whatever the buffer that it
-// is stored to.
+// `jabcode::read` is the way in, and makes the tests before. The stages follow the tests of documents 01 and
+// 02: 7, then 9 and 16, then 10, then 11 to 14, which are `stream_reader::read_net`. The counts are handed on
+// as one value, in which each stage sets its own; `room` is the length that a message may have, whatever the
+// buffer that it is stored to. The places of the repairs stay in the work buffer until the answer is known,
+// and are stored on 0 alone.
 use calls::Counts;
 use calls::ReadAnswer;
 use lent::Areas;
@@ -13,20 +14,23 @@ use symbology::Sizes;
 ghost use Prim.Native.Nat.{_≤_};
 ghost use mathlib.Core.Path.{_≡_};
 ghost use mathlib.Core.Bool.{true};
+ghost use mathlib.Core.List.{[], _∷_};
 ghost use lib.ListN.{length};
 ghost use Rattle.symbology.specs.Bits.{AllBits, differing};
-ghost use Rattle.symbology.specs.Rule.{lastWord};
+ghost use Rattle.symbology.specs.Rule.{repairsOf, placesOf, lastWord};
 ghost use Rattle.symbology.specs.Net.{stuffing};
 ghost use Rattle.symbology.specs.Capacity.{sizesFor};
 ghost use Rattle.symbology.specs.Symbol.{receivedBits};
 ghost use Rattle.symbology.specs.Code.{matrixFor, checksFor};
 ghost use Rattle.calls.specs.Tests.{isLegal};
-ghost use Rattle.calls.specs.Read.{answerFromAccepted, answerFromReceived, readAnswer, messageInAccepted, messageIn};
+ghost use Rattle.calls.specs.Read.{answerFromAccepted, answerFromReceived, readAnswer, messageInAccepted, messageIn, placesIn};
 ghost use Rattle.calls.specs.Contracts.{Reads};
 ghost use Rattle.layout.specs.Walk.{SizedSymbol};
-ghost use Rattle.lent.specs.Work.{RoomFor, wordIn};
+ghost use Rattle.lent.specs.Changes.{Changed};
+ghost use Rattle.lent.specs.Buffer.{numbersAt};
+ghost use Rattle.lent.specs.Work.{rowsSpan, marksSpan, numbersSpan, netSpan, RoomFor, wordIn};
 ghost use Rattle.checks.specs.Checks.{HoldsChecks};
-ghost use Rattle.symbol_reader.specs.Stages.{Answered};
+ghost use Rattle.symbol_reader.specs.Stages.{Answered, AnsweredWithPlaces};
 
 // From the accepted word: 10, a spare message column is 1, and what follows. The checks of A are in the
 // buffer.
@@ -39,7 +43,7 @@ fn from_accepted(
     message: &mut [u8],
 ) -> ReadAnswer
     requires { ⌜ RoomFor s a (length (now work)) × HoldsChecks a (matrixFor s) (now work) ⌝ }
-    ensures { λ r. ⌜ Answered (answerFromAccepted s (wordIn a (now (work .entry))) c room) (messageInAccepted s (wordIn a (now (work .entry)))) (now (message .entry)) r (now (message .exit)) ⌝ }
+    ensures { λ r. ⌜ Answered (answerFromAccepted s (wordIn a (now (work .entry))) c room) (messageInAccepted s (wordIn a (now (work .entry)))) (now (message .entry)) r (now (message .exit)) × Changed (rowsSpan a ∷ marksSpan a ∷ numbersSpan a ∷ netSpan a ∷ []) (now (work .entry)) (now (work .exit)) ⌝ }
 {
     if coding::take_message(work, a) {
         return calls::counted(c, 10);
@@ -50,7 +54,29 @@ fn from_accepted(
     calls::from_stream(c, read)
 }
 
-// From the received word: 9, stuck; else the read goes on from the word the rule ends with.
+// From the accepted word, with the places of the repairs in their area: 10 and what follows. On 0 the places
+// are stored.
+fn from_mended(
+    s: Sizes,
+    a: Areas,
+    work: &mut [u8],
+    c: Counts,
+    room: usize,
+    message: &mut [u8],
+    places: &mut [u16],
+) -> ReadAnswer
+    requires { ⌜ RoomFor s a (length (now work)) × HoldsChecks a (matrixFor s) (now work) × (c .repairs ≤ a .checks) × (c .repairs ≤ length (now places)) ⌝ }
+    ensures { λ r. ⌜ AnsweredWithPlaces (answerFromAccepted s (wordIn a (now (work .entry))) c room) (messageInAccepted s (wordIn a (now (work .entry)))) (numbersAt (now (work .entry)) (a .repaired) (c .repairs)) (now (message .entry)) (now (places .entry)) r (now (message .exit)) (now (places .exit)) ⌝ }
+{
+    let answer = from_accepted(s, a, work, c, room, message);
+    if answer.number == 0 {
+        lent::copy_numbers(work, a.repaired, c.repairs, places);
+    }
+    answer
+}
+
+// From the received word: 9, stuck; 16, more repairs than there is room for places; else the read goes on from
+// the word the rule ends with.
 fn from_received(
     s: Sizes,
     a: Areas,
@@ -58,9 +84,10 @@ fn from_received(
     got: Counts,
     room: usize,
     message: &mut [u8],
+    places: &mut [u16],
 ) -> ReadAnswer
     requires { ⌜ RoomFor s a (length (now work)) × AllBits (wordIn a (now work)) ⌝ }
-    ensures { λ r. ⌜ Answered (answerFromReceived s (wordIn a (now (work .entry))) got room) (messageInAccepted s (lastWord (checksFor s) (wordIn a (now (work .entry))))) (now (message .entry)) r (now (message .exit)) ⌝ }
+    ensures { λ r. ⌜ AnsweredWithPlaces (answerFromReceived s (wordIn a (now (work .entry))) got room (length (now (places .entry)))) (messageInAccepted s (lastWord (checksFor s) (wordIn a (now (work .entry))))) (placesOf (repairsOf (checksFor s) (wordIn a (now (work .entry))))) (now (message .entry)) (now (places .entry)) r (now (message .exit)) (now (places .exit)) ⌝ }
 {
     let mended = ldpc::mend(work, s, a);
     let c = Counts {
@@ -71,7 +98,10 @@ fn from_received(
     if mended.stuck {
         return calls::counted(c, 9);
     }
-    from_accepted(s, a, work, c, room, message)
+    if places.len() < mended.repairs {
+        return calls::counted(c, 16);
+    }
+    from_mended(s, a, work, c, room, message, places)
 }
 
 // Stores the C bits of a matrix, the mask and then the interleaving undone.
@@ -106,10 +136,11 @@ fn read_uncleared(
     work: &mut [u8],
     room: usize,
     message: &mut [u8],
+    places: &mut [u16],
     s: Sizes,
 ) -> ReadAnswer
     requires { ⌜ (isLegal p (now list) (length (now matrix)) (length (now work)) ≡ true) × (s ≡ sizesFor p (now list)) ⌝ }
-    ensures { λ r. ⌜ Answered (readAnswer p (now (list .entry)) (now (matrix .entry)) (length (now (work .entry))) room) (messageIn p (now (list .entry)) (now (matrix .entry))) (now (message .entry)) r (now (message .exit)) ⌝ }
+    ensures { λ r. ⌜ AnsweredWithPlaces (readAnswer p (now (list .entry)) (now (matrix .entry)) (length (now (work .entry))) room (length (now (places .entry)))) (messageIn p (now (list .entry)) (now (matrix .entry))) (placesIn p (now (list .entry)) (now (matrix .entry))) (now (message .entry)) (now (places .entry)) r (now (message .exit)) (now (places .exit)) ⌝ }
 {
     let bad = layout::first_bad_module(p.colours, matrix);
     if bad < matrix.len() {
@@ -125,7 +156,7 @@ fn read_uncleared(
         unmet: 0,
         stuffing: wrong_stuffing(&work[seam..end]),
     };
-    from_received(s, a, work, c, room, message)
+    from_received(s, a, work, c, room, message, places)
 }
 
 // A read of legal input, with the sizes of its symbol. The work buffer is cleared behind it.
@@ -135,13 +166,14 @@ pub fn read_legal(
     matrix: &[u8],
     work: &mut [u8],
     message: &mut [u8],
+    places: &mut [u16],
     s: Sizes,
 ) -> ReadAnswer
     requires { ⌜ (isLegal p (now list) (length (now matrix)) (length (now work)) ≡ true) × (s ≡ sizesFor p (now list)) ⌝ }
-    ensures { λ r. ⌜ Reads p (now (list .entry)) (now (matrix .entry)) (now (work .entry)) (now (message .entry)) r (now (work .exit)) (now (message .exit)) ⌝ }
+    ensures { λ r. ⌜ Reads p (now (list .entry)) (now (matrix .entry)) (now (work .entry)) (now (message .entry)) (now (places .entry)) r (now (work .exit)) (now (message .exit)) (now (places .exit)) ⌝ }
 {
     let room = message.len();
-    let answer = read_uncleared(p, list, matrix, work, room, message, s);
+    let answer = read_uncleared(p, list, matrix, work, room, message, places, s);
     lent::clear(work, 0, work.len());
     answer
 }

@@ -2,7 +2,7 @@
 -- Assumes nothing.
 use Prim.Native.Nat.{ℕ, zero, suc, _+_, _-_, _%_}
 use mathlib.Core.Bool.{Bool, cond, _||_}
-use mathlib.Core.List.{List, [], _∷_}
+use mathlib.Core.List.{List, [], _∷_, map}
 use lib.ListN.{length, getD, set}
 use lib.Dec.{ltb, eqb}
 use Rattle.symbology.specs.Ranges.{lowest, has}
@@ -64,6 +64,10 @@ afterTurns w (j ∷ js) = afterTurns (turned w j) js
 -- the repairs of the rule run from a received word to its end
 unfoldable pub repairsOf : List (List ℕ) → List ℕ → List ℕ
 repairsOf cs w = repairs cs (unmetCount cs w) w
+
+-- the places of bits, which count from 1: document 01 in P10, document 02 in W-205
+unfoldable pub placesOf : List ℕ → List ℕ
+placesOf js = map suc js
 
 -- the word that it ends with
 unfoldable pub lastWord : List (List ℕ) → List ℕ → List ℕ

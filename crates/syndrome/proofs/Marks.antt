@@ -12,12 +12,12 @@ use Rattle.symbology.specs.Rule.{unmet, unmetCount}
 use Rattle.laws.proofs.Gf2.{unmetCount-snoc}
 use Rattle.laws.proofs.Stores.{store-next}
 use Rattle.lent.specs.declared.Areas.{Areas}
-use Rattle.lent.specs.Changes.{Changed}
+use Rattle.lent.specs.Changes.{Span, Outside, Changed}
 use Rattle.lent.specs.Work.{wordRowSpan, marksSpan, Laid, wordIn}
 use Rattle.lent.proofs.Changes.{changed-none, changed-wider, changed-then, changed-set}
 use Rattle.lent.proofs.Work.{word-kept}
 use Rattle.checks.specs.Checks.{standsIn, checksIn, unmetIn, WordStaged}
-use Rattle.checks.proofs.Checks.{checks-kept, unmet-kept}
+use Rattle.checks.proofs.Checks.{ChecksOutside, checks-kept, unmet-kept}
 use Rattle.syndrome.specs.Syndrome.{markOf, MarkBits, Marked, MarksSet, Judged}
 
 -- ---- marks set
@@ -50,6 +50,15 @@ module _ {a : Areas} {i : ℕ} {before after : List ℕ} (laid : Laid a (length 
   pub marked-all : i ≡ a .checks → MarksSet a before after
   marked-all e =
       record { changed = m .changed; marked = λ p h. m .done p (omega arith) ∙ sym (unmet-marked p h) }
+
+-- The checks stay marked where neither they, nor their marks, nor the word are changed.
+pub marked-kept : {a : Areas} {ss : List Span} {before after : List ℕ} → Laid a (length before) → Changed ss before after
+    → ChecksOutside a ss
+    → ((q : ℕ) → a .marks ≤ q → q < a .marks + a .checks → Outside ss q)
+    → ((q : ℕ) → a .word ≤ q → q < a .word + a .gross → Outside ss q)
+    → Marked a before → Marked a after
+marked-kept {a} laid c checks marks word marked i h =
+    c .kept (a .marks + i) (marks (a .marks + i) (omega arith) (omega arith)) ∙ marked i h ∙ sym (unmet-kept laid c checks word i h)
 
 -- ---- the unmet checks as a loop counts them
 

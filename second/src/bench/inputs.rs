@@ -112,7 +112,9 @@ fn damaged(
         }
         let mut work = vec![0; symbol.sizes().work];
         let mut back = vec![0; message.len()];
-        let answer = read(symbol.params(), list, &sampled, &mut work, &mut back);
+        let mut places = vec![0; symbol.sizes().checks];
+        let params = symbol.params();
+        let answer = read(params, list, &sampled, &mut work, &mut back, &mut places);
         if answer.number == 0 && back == message {
             return sampled;
         }

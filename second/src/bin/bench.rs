@@ -22,6 +22,7 @@ struct Buffers {
     matrix: Vec<u8>,
     work: Vec<u8>,
     message: Vec<u8>,
+    places: Vec<u16>,
 }
 
 impl Buffers {
@@ -30,6 +31,7 @@ impl Buffers {
             matrix: vec![0; input.sizes.columns * input.sizes.rows],
             work: vec![0; input.sizes.work],
             message: vec![0; input.message.len()],
+            places: vec![0; input.sizes.checks],
         }
     }
 }
@@ -54,7 +56,9 @@ fn run(codec: &Codec, input: &Input, lent: &mut Buffers) -> ReadAnswer {
         }
         Call::Read(matrix) => {
             lent.message.fill(0);
-            (codec.read)(params, list, matrix, &mut lent.work, &mut lent.message)
+            lent.places.fill(0);
+            let (work, message) = (&mut lent.work, &mut lent.message);
+            (codec.read)(params, list, matrix, work, message, &mut lent.places)
         }
     }
 }
@@ -95,9 +99,9 @@ fn print_head(inputs: &[Input]) {
         println!("{}", input.shape());
     }
     println!("Microseconds a call, the median of the rounds. A call is timed with the clearing");
-    println!("of the work buffer and of the matrix or message that it stores, in both alike.");
-    println!("The ratio is the median of the rounds' ratios proved / second; behind it the");
-    println!("lowest and the highest.");
+    println!("of the work buffer and of what it stores (matrix, or message and places), in both");
+    println!("alike. The ratio is the median of the rounds' ratios proved / second; behind it");
+    println!("the lowest and the highest.");
     println!();
     println!("| symbol | call | repairs | rounds | proved | second | ratio | lowest to highest |");
     println!("|---|---|---:|---:|---:|---:|---:|---:|");

@@ -3,8 +3,9 @@
 //!
 //! `labels write` prints the text of the record on standard input; `labels
 //! read` reads such a text and prints the line `NUMBER PLACE LENGTH REPAIRS
-//! UNMET STUFFING` and then the message. `labels refused NUMBER`, 10 to 13,
-//! prints a text that no writer makes and a reader refuses with this number.
+//! UNMET STUFFING`, on 0 with the places of the bits turned behind, and then the
+//! message. `labels refused NUMBER`, 10 to 13, prints a text that no writer
+//! makes and a reader refuses with this number.
 
 use second::{read, sizes, stream, write, Bits, Params, Symbol};
 use std::io::{self, Read, Write};
@@ -92,13 +93,22 @@ fn refused_text(number: &str) -> Option<String> {
     Some(lines_of(&matrix, sizes.columns))
 }
 
-/// The line of numbers and the message of a text.
+/// The line of numbers and the message of a text. The slice has K numbers, which
+/// no read has more repairs than.
 fn reading_of(text: &[u8]) -> Vec<u8> {
     let digits = text.iter().filter(|digit| digit.is_ascii_digit());
     let matrix: Vec<u8> = digits.map(|digit| digit - b'0').collect();
-    let (mut work, mut message) = (vec![0; 53_964], vec![0; 1_024]);
-    let answer = read(&SYMBOL, &palettes(), &matrix, &mut work, &mut message);
-    let numbers = [
+    let (mut work, mut message, mut places) = (vec![0; 53_964], vec![0; 1_024], vec![0; 348]);
+    let list = palettes();
+    let answer = read(
+        &SYMBOL,
+        &list,
+        &matrix,
+        &mut work,
+        &mut message,
+        &mut places,
+    );
+    let mut numbers = vec![
         answer.number as usize,
         answer.place,
         answer.length,
@@ -106,6 +116,8 @@ fn reading_of(text: &[u8]) -> Vec<u8> {
         answer.unmet,
         answer.stuffing,
     ];
+    let stored = places[..answer.stored()].iter();
+    numbers.extend(stored.map(|&place| usize::from(place)));
     let words: Vec<String> = numbers.iter().map(usize::to_string).collect();
     let mut reading = (words.join(" ") + "\n").into_bytes();
     reading.extend(&message[..answer.length]);

@@ -17,6 +17,8 @@ mod matrices;
 mod proved;
 #[path = "../stress/shape.rs"]
 mod shape;
+#[path = "../stress/slices.rs"]
+mod slices;
 #[path = "../stress/streams.rs"]
 mod streams;
 #[path = "../stress/tally.rs"]
@@ -41,8 +43,9 @@ fn run(time: Duration, first: u64, seed: u64) -> bool {
         if start.elapsed() >= time || difference.is_some() {
             break;
         }
-        match compare(&Case::draw(seed, number)) {
-            Ok(answers) => tally.count(&answers),
+        let case = Case::draw(seed, number);
+        match compare(&case) {
+            Ok(answers) => tally.count(&case, &answers),
             Err(text) => difference = Some((number, text)),
         }
         if told.elapsed() >= PROGRESS {

@@ -1,6 +1,6 @@
 //! A case: what a caller hands to a write or a read.
 
-use crate::{faults, matrices, shape};
+use crate::{faults, matrices, shape, slices};
 use second::chance::Chance;
 use second::geometry::side_size;
 use second::{stream, Params, Symbol};
@@ -9,8 +9,9 @@ use std::fmt;
 pub enum Call {
     /// The message, and the length of the matrix.
     Write(Vec<u8>, usize),
-    /// The matrix, and the length of the message buffer.
-    Read(Vec<u8>, usize),
+    /// The matrix, and the lengths of the message buffer and of the slice of
+    /// places.
+    Read(Vec<u8>, usize, usize),
 }
 
 pub struct Case {
@@ -37,7 +38,7 @@ impl Case {
             params,
             list,
             work: least + chance.pick(&[0, 0, 1, 7, 1_000]),
-            call: Call::Read(Vec::new(), 0),
+            call: Call::Read(Vec::new(), 0, 0),
             fill,
         };
         let modules = side_size(params.horizontal) * side_size(params.vertical);
@@ -80,8 +81,8 @@ impl Case {
 }
 
 fn draw_read(chance: &mut Chance, legal: Option<Symbol>, colours: u32, modules: usize) -> Call {
-    let sampled = match legal {
-        Some(symbol) => matrices::draw(chance, &symbol),
+    let sampled = match &legal {
+        Some(symbol) => matrices::draw(chance, symbol),
         None => matrices::Sampled {
             matrix: matrices::noise(chance, colours, modules),
             length: 0,
@@ -91,7 +92,11 @@ fn draw_read(chance: &mut Chance, legal: Option<Symbol>, colours: u32, modules: 
     let more = length + chance.below(300);
     let short = length.saturating_sub(1);
     let room = chance.pick(&[0, short, length, length + 1, more, more, more, more, more]);
-    Call::Read(sampled.matrix, room)
+    let slice = match &legal {
+        Some(symbol) => slices::draw(chance, symbol, &sampled.matrix),
+        None => slices::any(chance),
+    };
+    Call::Read(sampled.matrix, room, slice)
 }
 
 /// A message around the longest that fits, around the length at which the count
@@ -123,8 +128,9 @@ impl fmt::Display for Case {
                 writeln!(f, "write into a matrix of {matrix} bytes")?;
                 writeln!(f, "message of {} bytes: {message:?}", message.len())
             }
-            Call::Read(matrix, room) => {
+            Call::Read(matrix, room, slice) => {
                 writeln!(f, "read into a message buffer of {room} bytes")?;
+                writeln!(f, "slice of {slice} numbers for places")?;
                 writeln!(f, "matrix of {} bytes: {matrix:?}", matrix.len())
             }
         }

@@ -2,7 +2,7 @@
 
 use crate::both::{Codec, PROVED, SECOND};
 use crate::case::{Call, Case};
-use second::params::RETIRED;
+use second::params::GIVEN;
 use second::{ReadAnswer, Refusal, Sizes};
 use std::panic;
 
@@ -12,11 +12,12 @@ pub enum Answer {
     Read(ReadAnswer),
 }
 
-/// What both calls of a case answered.
-#[derive(Clone, Copy, Debug, PartialEq, Eq)]
+/// What both calls of a case answered, and the places that a read stored.
+#[derive(Clone, Debug, PartialEq, Eq)]
 pub struct Answers {
     pub sizes: Result<Sizes, Refusal>,
     pub answer: Answer,
+    pub places: Vec<u16>,
 }
 
 impl Answers {
@@ -77,6 +78,7 @@ struct Buffers {
     message: Guarded<u8>,
     matrix: Guarded<u8>,
     work: Guarded<u8>,
+    places: Guarded<u16>,
 }
 
 impl Buffers {
@@ -89,15 +91,21 @@ impl Buffers {
             let bytes = (0..length).map(|place| (place as u8).wrapping_mul(167) ^ fill);
             Guarded::new(bytes, guard, fill / 16)
         };
-        let (message, matrix) = match &case.call {
-            Call::Write(message, matrix) => (given(message), blank(*matrix)),
-            Call::Read(matrix, room) => (blank(*room), given(matrix)),
+        let (message, matrix, slice) = match &case.call {
+            Call::Write(message, matrix) => (given(message), blank(*matrix), 0),
+            Call::Read(matrix, room, slice) => (blank(*room), given(matrix), *slice),
         };
+        // no constant either, and none of them 0 or a place
+        let numbers = (0..slice).map(|place| {
+            let number = (place as u16).wrapping_mul(40_503) ^ u16::from(fill);
+            number | 0x8000
+        });
         Buffers {
             list: Guarded::new(case.list.iter().copied(), 0xA5A5, fill),
             message,
             matrix,
             work: blank(case.work),
+            places: Guarded::new(numbers, 0x5A5A, fill / 16),
         }
     }
 
@@ -107,6 +115,7 @@ impl Buffers {
             .or_else(|| self.message.difference("message", &other.message))
             .or_else(|| self.matrix.difference("matrix", &other.matrix))
             .or_else(|| self.work.difference("work", &other.work))
+            .or_else(|| self.places.difference("places", &other.places))
     }
 }
 
@@ -114,12 +123,24 @@ fn run(codec: &Codec, case: &Case) -> (Answers, Buffers) {
     let mut lent = Buffers::new(case);
     let (params, list, work) = (&case.params, lent.list.lent(), lent.work.lent());
     let (message, matrix) = (lent.message.lent(), lent.matrix.lent());
+    let slice = lent.places.lent();
     let sizes = (codec.sizes)(params, list);
-    let answer = match &case.call {
-        Call::Write(..) => Answer::Write((codec.write)(params, list, message, matrix, work)),
-        Call::Read(..) => Answer::Read((codec.read)(params, list, matrix, work, message)),
+    let (answer, stored) = match &case.call {
+        Call::Write(..) => {
+            let refusal = (codec.write)(params, list, message, matrix, work);
+            (Answer::Write(refusal), 0)
+        }
+        Call::Read(..) => {
+            let answer = (codec.read)(params, list, matrix, work, message, slice);
+            (Answer::Read(answer), answer.stored())
+        }
     };
-    (Answers { sizes, answer }, lent)
+    let answers = Answers {
+        sizes,
+        answer,
+        places: slice.iter().take(stored).copied().collect(),
+    };
+    (answers, lent)
 }
 
 /// A panic is told on standard error, and is a difference.
@@ -127,8 +148,8 @@ fn run_or_panic(codec: &Codec, case: &Case) -> Option<(Answers, Buffers)> {
     panic::catch_unwind(|| run(codec, case)).ok()
 }
 
-/// What both answered, or how they differ. That both give a number which is
-/// not given any more is a difference from the papers.
+/// What both answered, or how they differ. That both give a number which no call
+/// gives is a difference from the papers.
 pub fn compare(case: &Case) -> Result<Answers, String> {
     let proved = run_or_panic(&PROVED, case);
     let second = run_or_panic(&SECOND, case);
@@ -139,12 +160,12 @@ pub fn compare(case: &Case) -> Result<Answers, String> {
     };
     let place = proved.1.difference(&second.1);
     if proved.0 == second.0 && place.is_none() {
-        return match second.0.number() {
-            RETIRED => Err(format!(
-                "both: {:?}\n{RETIRED} is not given any more",
-                second.0
-            )),
-            _ => Ok(second.0),
+        let answers = second.0;
+        let number = answers.number();
+        return if GIVEN.contains(&number) {
+            Ok(answers)
+        } else {
+            Err(format!("both: {answers:?}\n{number} is not given"))
         };
     }
     let place = place.map_or("no buffer differs".to_string(), |(name, place)| {

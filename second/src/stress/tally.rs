@@ -1,14 +1,45 @@
-//! What the cases were: answers, capacities, repairs and wrong stuffing bits.
+//! What the cases were: answers, capacities, wrong stuffing bits, repairs and
+//! the places stored.
 
+use crate::case::{Call, Case};
 use crate::compare::{Answer, Answers};
-use second::params::RETIRED;
+use second::params::GIVEN;
+use second::ReadAnswer;
 use std::fmt;
 
-const ANSWERS: usize = 15;
+/// One more than the highest number.
+const ANSWERS: usize = 17;
 /// The most stuffing bits there are: they are fewer than wr.
 const STUFFING: usize = 8;
 /// The highest C of each range.
 const RANGES: [usize; 6] = [60, 300, 1_100, 2_000, 3_000, 4_096];
+
+/// The slices of reads with repairs, each under the first name that fits.
+const SLICES: [&str; 8] = [
+    "as many numbers as repairs",
+    "one fewer",
+    "one more",
+    "none",
+    "as many as unmet checks",
+    "K",
+    "fewer than repairs",
+    "more than repairs",
+];
+
+/// Where a slice stands in `SLICES`.
+fn kind_of_slice(slice: usize, answer: &ReadAnswer, checks: usize) -> usize {
+    let repairs = answer.repairs;
+    let kinds = [
+        slice == repairs,
+        slice + 1 == repairs,
+        slice == repairs + 1,
+        slice == 0,
+        slice == answer.unmet,
+        slice == checks,
+        slice < repairs,
+    ];
+    kinds.iter().position(|&is| is).unwrap_or(kinds.len())
+}
 
 #[derive(Default)]
 pub struct Tally {
@@ -22,6 +53,11 @@ pub struct Tally {
     ranges: [usize; RANGES.len() + 1],
     mended: usize,
     most_repairs: usize,
+    slices: [usize; SLICES.len()],
+    /// The reads that stored places, and those that stored one twice.
+    stored: usize,
+    stored_twice: usize,
+    most_places: usize,
 }
 
 impl Tally {
@@ -29,7 +65,7 @@ impl Tally {
         self.cases
     }
 
-    pub fn count(&mut self, answers: &Answers) {
+    pub fn count(&mut self, case: &Case, answers: &Answers) {
         self.cases += 1;
         let refused = answers.sizes.err().map_or(0, |refusal| refusal.number);
         self.sizes[refused as usize] += 1;
@@ -45,6 +81,26 @@ impl Tally {
                 self.most_repairs = self.most_repairs.max(answer.repairs);
             }
         }
+        self.count_slice(case, answers);
+        self.count_places(&answers.places);
+    }
+
+    fn count_slice(&mut self, case: &Case, answers: &Answers) {
+        match (&case.call, answers.answer, answers.sizes) {
+            (Call::Read(_, _, slice), Answer::Read(answer), Ok(sizes)) if answer.repairs > 0 => {
+                self.slices[kind_of_slice(*slice, &answer, sizes.checks)] += 1;
+            }
+            _ => {}
+        }
+    }
+
+    fn count_places(&mut self, places: &[u16]) {
+        let mut once = places.to_vec();
+        once.sort_unstable();
+        once.dedup();
+        self.stored += usize::from(!places.is_empty());
+        self.stored_twice += usize::from(once.len() < places.len());
+        self.most_places = self.most_places.max(places.len());
     }
 
     fn show_answers(&self, f: &mut fmt::Formatter) -> fmt::Result {
@@ -85,11 +141,19 @@ impl Tally {
         show_counts(f, "all", &all)?;
         writeln!(f)
     }
+
+    fn show_slices(&self, f: &mut fmt::Formatter) -> fmt::Result {
+        writeln!(f, "slices of reads with repairs")?;
+        for (name, count) in SLICES.iter().zip(self.slices) {
+            writeln!(f, "{name:26} {count:7}")?;
+        }
+        writeln!(f)
+    }
 }
 
 /// The numbers that may be given; `compare` lets no other through.
 fn given() -> impl Iterator<Item = usize> {
-    (0..ANSWERS).filter(|&number| number != RETIRED as usize)
+    GIVEN.iter().map(|&number| number as usize)
 }
 
 /// Reads by their wrong stuffing bits, those without any left out.
@@ -106,7 +170,13 @@ impl fmt::Display for Tally {
         self.show_answers(f)?;
         self.show_ranges(f)?;
         self.show_stuffing(f)?;
+        self.show_slices(f)?;
         let (mended, most) = (self.mended, self.most_repairs);
-        write!(f, "{mended} reads with repairs, {most} repairs at most")
+        writeln!(f, "{mended} reads with repairs, {most} repairs at most")?;
+        let (stored, twice, most) = (self.stored, self.stored_twice, self.most_places);
+        write!(
+            f,
+            "{stored} reads with places stored, {most} at most; {twice} stored a place twice"
+        )
     }
 }

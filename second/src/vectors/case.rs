@@ -6,8 +6,9 @@ use second::geometry::Layout;
 use second::reserved::reserve;
 use second::{read, write, Bits, Params, Symbol};
 
-/// What every buffer is filled with before a call.
+/// What every buffer is filled with before a call, and the slice of places.
 const FILL: u8 = 165;
+const PLACE_FILL: u16 = 42_405;
 
 /// What a caller lends besides buffers.
 #[derive(Clone)]
@@ -46,13 +47,19 @@ impl Lent {
     pub fn modules(&self) -> usize {
         self.symbol().modules()
     }
+
+    /// K.
+    pub fn checks(&self) -> usize {
+        self.symbol().sizes().checks
+    }
 }
 
 pub enum Call {
     /// The length of the matrix, and the message.
     Write(usize, Vec<u8>),
-    /// The length of the message buffer, and the matrix.
-    Read(usize, Vec<u8>),
+    /// The lengths of the message buffer and of the slice of places, and the
+    /// matrix.
+    Read(usize, usize, Vec<u8>),
 }
 
 pub struct Case {
@@ -62,10 +69,13 @@ pub struct Case {
     call: Call,
 }
 
-/// A case's number, its wrong stuffing bits and its line of output.
+/// A case's number, its wrong stuffing bits, its repairs, the places stored and
+/// its line of output.
 pub struct Answer {
     pub number: u32,
     pub stuffing: usize,
+    pub repairs: usize,
+    pub places: Vec<u16>,
     pub line: String,
 }
 
@@ -83,8 +93,8 @@ impl Case {
         numbers.push(self.lent.list.len() as u32);
         numbers.extend(self.lent.list.iter().map(|&number| u32::from(number)));
         let (sizes, bytes) = match &self.call {
-            Call::Write(matrix, message) => ([*matrix, self.work], message),
-            Call::Read(room, matrix) => ([self.work, *room], matrix),
+            Call::Write(matrix, message) => (vec![*matrix, self.work], message),
+            Call::Read(room, slice, matrix) => (vec![self.work, *room, *slice], matrix),
         };
         numbers.extend(sizes.iter().map(|&size| size as u32));
         numbers.push(bytes.len() as u32);
@@ -96,7 +106,7 @@ impl Case {
         let mut work = vec![FILL; self.work];
         match &self.call {
             Call::Write(matrix, message) => self.written(*matrix, message, &mut work),
-            Call::Read(room, matrix) => self.have_read(*room, matrix, &mut work),
+            Call::Read(room, slice, matrix) => self.have_read(*room, *slice, matrix, &mut work),
         }
     }
 
@@ -107,21 +117,25 @@ impl Case {
         let shown = if answer.number == 0 {
             matrix.iter().map(u8::to_string).collect()
         } else {
-            kept(&matrix).to_string()
+            kept(&matrix, FILL).to_string()
         };
         let (number, place) = (answer.number, answer.place);
         Answer {
             number,
             stuffing: 0,
+            repairs: 0,
+            places: Vec::new(),
             line: format!("write {number} {place} {} {shown}\n", state(work)),
         }
     }
 
-    fn have_read(&self, room: usize, matrix: &[u8], work: &mut [u8]) -> Answer {
+    fn have_read(&self, room: usize, slice: usize, matrix: &[u8], work: &mut [u8]) -> Answer {
         let Lent { params, list } = &self.lent;
         let mut message = vec![FILL; room];
-        let answer = read(params, list, matrix, work, &mut message);
+        let mut slice = vec![PLACE_FILL; slice];
+        let answer = read(params, list, matrix, work, &mut message, &mut slice);
         let (bytes, rest) = message.split_at(answer.length);
+        let (places, unused) = slice.split_at(answer.stored());
         let counts = [
             answer.number as usize,
             answer.place,
@@ -130,14 +144,23 @@ impl Case {
             answer.unmet,
             answer.stuffing,
         ];
-        let mut line = format!("read {} {} {}", joined(&counts), state(work), kept(rest));
-        if !bytes.is_empty() {
-            line = format!("{line} {}", joined(bytes));
+        let states = [state(work), kept(rest, FILL), kept(unused, PLACE_FILL)];
+        let fields = [
+            joined(&counts),
+            joined(&states),
+            joined(bytes),
+            joined(places),
+        ];
+        let mut line = "read".to_string();
+        for field in fields.iter().filter(|field| !field.is_empty()) {
+            line = format!("{line} {field}");
         }
         line.push('\n');
         Answer {
             number: answer.number,
             stuffing: answer.stuffing,
+            repairs: answer.repairs,
+            places: places.to_vec(),
             line,
         }
     }
@@ -148,8 +171,8 @@ fn joined<T: ToString>(numbers: &[T]) -> String {
     texts.join(" ")
 }
 
-fn kept(buffer: &[u8]) -> &'static str {
-    if buffer.iter().all(|&byte| byte == FILL) {
+fn kept<T: PartialEq>(buffer: &[T], fill: T) -> &'static str {
+    if buffer.iter().all(|number| *number == fill) {
         "kept"
     } else {
         "changed"
@@ -161,7 +184,7 @@ fn state(work: &[u8]) -> &'static str {
     if work.iter().all(|&byte| byte == 0) {
         "zero"
     } else {
-        kept(work)
+        kept(work, FILL)
     }
 }
 
@@ -190,7 +213,10 @@ impl Book {
         assert!(lent.list.len() <= 3_100);
         let (matrix, message) = match &call {
             Call::Write(matrix, message) => (*matrix, message.len()),
-            Call::Read(room, matrix) => (matrix.len(), *room),
+            Call::Read(room, slice, matrix) => {
+                assert!(*slice <= 1_024);
+                (matrix.len(), *room)
+            }
         };
         assert!(matrix <= 4_096 && message <= 1_024);
         self.cases.push(Case {
@@ -207,13 +233,16 @@ impl Book {
         self.call(about, lent, lent.work(), call);
     }
 
-    /// A read with a work buffer of the least length and more room than needed.
+    /// A read with a work buffer of the least length, and more room than needed
+    /// for the message.
     pub fn read(&mut self, about: &str, lent: &Lent, matrix: Vec<u8>) {
         self.read_into(about, lent, matrix, 200);
     }
 
+    /// A read with a slice of K numbers: no read has more repairs.
     pub fn read_into(&mut self, about: &str, lent: &Lent, matrix: Vec<u8>, room: usize) {
-        self.call(about, lent, lent.work(), Call::Read(room, matrix));
+        let call = Call::Read(room, lent.checks(), matrix);
+        self.call(about, lent, lent.work(), call);
     }
 
     /// A usual symbol whose net bits can hold a stream.

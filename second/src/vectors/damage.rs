@@ -190,7 +190,7 @@ fn noise(book: &mut Book) {
 }
 
 /// The most times any bit was turned.
-fn most_turns(mending: &Mending) -> usize {
+pub fn most_turns(mending: &Mending) -> usize {
     let count = |bit: &usize| mending.turned.iter().filter(|&other| other == bit).count();
     mending.turned.iter().map(count).max().unwrap_or(0)
 }
@@ -221,11 +221,13 @@ fn turned_again(book: &mut Book) {
 }
 
 /// The answer to a received word of a symbol.
-fn answer(lent: &Lent, received: &Bits) -> u32 {
+pub fn answer(lent: &Lent, received: &Bits) -> u32 {
     let symbol = lent.symbol();
     let matrix = symbol.matrix_of_word(received);
-    let mut work = vec![0; symbol.sizes().work];
-    second::read(&lent.params, &lent.list, &matrix, &mut work, &mut [0; 200]).number
+    let (mut work, mut places) = (vec![0; lent.work()], vec![0; lent.checks()]);
+    let Lent { params, list } = lent;
+    let answer = second::read(params, list, &matrix, &mut work, &mut [0; 200], &mut places);
+    answer.number
 }
 
 /// Damage that mends into a codeword other than the one written.

@@ -89,7 +89,7 @@ fn parameters(book: &mut Book) {
         fault(&mut params);
         if number % 4 == 3 {
             let about = format!("read refused 1: {words}");
-            book.call(&about, &bare(params), 9, Call::Read(5, vec![0; 12]));
+            book.call(&about, &bare(params), 9, Call::Read(5, number, vec![0; 12]));
         } else {
             let about = format!("write refused 1: {words}");
             let call = Call::Write(441, b"abc".to_vec());
@@ -218,13 +218,13 @@ fn capacities(book: &mut Book) {
         let kind = u32::from(colours == 4);
         let params = book.chance.params(kind, (1, 1), colours);
         let lent = book.chance.lent(params, data_modules);
-        let call = Call::Read(9, vec![0; 441]);
+        let call = Call::Read(9, 348, vec![0; 441]);
         book.call(&format!("read refused 3: {about}"), &lent, WORK, call);
     }
     let params = book.chance.params(1, (6, 1), 8);
     let lent = book.chance.lent(params, 2);
     let about = "read refused 3: C is 6, with an empty matrix and no work buffer";
-    book.call(about, &lent, 0, Call::Read(1_024, vec![]));
+    book.call(about, &lent, 0, Call::Read(1_024, 1_024, vec![]));
 }
 
 fn matrix_lengths(book: &mut Book) {
@@ -259,7 +259,12 @@ fn work_lengths(book: &mut Book) {
             book.call(&about, &lent, given, Call::Write(441, Vec::new()));
         }
         let about = format!("read: C {capacity} with {} of {work} work bytes", work - 1);
-        book.call(&about, &lent, work - 1, Call::Read(7, vec![0; 441]));
+        book.call(
+            &about,
+            &lent,
+            work - 1,
+            Call::Read(7, lent.checks(), vec![0; 441]),
+        );
     }
     let lent = book.chance.with_capacity(676);
     let about = "write: a work buffer longer than the least is zero to its end";
@@ -275,9 +280,9 @@ fn first_of_several(book: &mut Book) {
     let about = "write: 5 and 6 apply";
     book.call(about, &lent, work - 1, Call::Write(441, message.clone()));
     let about = "read: 5 and 7 apply";
-    book.call(about, &lent, work - 1, Call::Read(0, vec![200; 441]));
+    book.call(about, &lent, work - 1, Call::Read(0, 0, vec![200; 441]));
     let about = "read: 4 and 7 apply";
-    book.call(about, &lent, work, Call::Read(0, vec![200; 442]));
+    book.call(about, &lent, work, Call::Read(0, 1, vec![200; 442]));
     lent.list = vec![1, 1, 1, 0, 0, 0];
     let about = "write: 2, 4, 5 and 6 apply";
     book.call(about, &lent, 11, Call::Write(1, message.clone()));
@@ -291,5 +296,5 @@ fn first_of_several(book: &mut Book) {
     book.call(about, &lent, 63, Call::Write(440, b"x".to_vec()));
     lent.list[0] = 22;
     let about = "read: 2, 3, 4 and 5 apply";
-    book.call(about, &lent, 63, Call::Read(3, vec![9; 3]));
+    book.call(about, &lent, 63, Call::Read(3, 3, vec![9; 3]));
 }

@@ -313,6 +313,6 @@ fn rooms(book: &mut Book) {
     read_into(book, "end of message in an overfull buffer", &codes, 4);
     let lent = book.chance.with_capacity(942);
     let matrix = matrix(&lent, &bits(&ten));
-    let about = "read: more work bytes and room than needed";
-    book.call(about, &lent, 53_964, Call::Read(1_024, matrix));
+    let about = "read: more work bytes, room and places than needed";
+    book.call(about, &lent, 53_964, Call::Read(1_024, 1_024, matrix));
 }

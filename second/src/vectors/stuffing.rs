@@ -42,7 +42,7 @@ pub fn add(book: &mut Book) {
     not_counted(book);
 }
 
-fn stuffing_of(symbol: &Symbol) -> usize {
+pub fn stuffing_of(symbol: &Symbol) -> usize {
     symbol.lengths().capacity - symbol.lengths().gross
 }
 
@@ -59,7 +59,7 @@ fn symbol_with(book: &mut Book, least: usize) -> Lent {
 }
 
 /// The matrix of a word, with so many of the stuffing bits turned, any of them.
-fn matrix_with(book: &mut Book, symbol: &Symbol, word: &Bits, wrong: usize) -> Vec<u8> {
+pub fn matrix_with(book: &mut Book, symbol: &Symbol, word: &Bits, wrong: usize) -> Vec<u8> {
     let lengths = symbol.lengths();
     let mut places: Vec<usize> = (lengths.gross..lengths.capacity).collect();
     book.chance.shuffle(&mut places);
@@ -194,14 +194,15 @@ fn not_counted(book: &mut Book) {
     let about = "read refused 4: a module too many, 8 stuffing bits wrong";
     book.read(about, &lent, long);
     let about = "read refused 5: a work byte too few, 8 stuffing bits wrong";
-    let call = Call::Read(200, wrong.clone());
+    let call = Call::Read(200, lent.checks(), wrong.clone());
     book.call(about, &lent, lent.work() - 1, call);
     let (mut longer, mut masked) = (lent.clone(), lent.clone());
     longer.list.push(1);
     let about = "read refused 2: a number too many in the list, 8 stuffing bits wrong";
-    let call = Call::Read(200, wrong.clone());
+    let call = Call::Read(200, lent.checks(), wrong.clone());
     book.call(about, &longer, lent.work(), call);
     masked.params.mask = 8;
     let about = "read refused 1: mask 8, 8 stuffing bits wrong";
-    book.call(about, &masked, lent.work(), Call::Read(200, wrong));
+    let call = Call::Read(200, lent.checks(), wrong);
+    book.call(about, &masked, lent.work(), call);
 }

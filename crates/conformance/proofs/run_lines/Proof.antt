@@ -1,5 +1,5 @@
 -- `conformance::run_lines` is safe: each line ends inside the input. The invariant: the next line starts at most one byte behind the input,
--- and the four buffers keep their lengths. What falls: the bytes from there to one behind the input. Assumes nothing.
+-- and the five buffers keep their lengths. What falls: the bytes from there to one behind the input. Assumes nothing.
 use Prim.Native.Nat.{_+_, _-_, _≤_}
 use mathlib.Core.Path.{_≡_}
 use lib.ListN.{length}
@@ -8,15 +8,16 @@ use Rattle.conformance.proofs.run_lines.Statement.{statement}
 use Rattle.conformance.proofs.run_lines.Tie as tie
 
 abbrev Inv-loop : tie.InvT-loop
-Inv-loop input list₀ matrix₀ work₀ message₀ from₀ list matrix work message from =
+Inv-loop input list₀ matrix₀ work₀ message₀ numbers₀ from₀ list matrix work message numbers from =
     (from ≤ length input + 1)
     × (length list ≡ length list₀)
     × (length matrix ≡ length matrix₀)
     × (length work ≡ length work₀)
     × (length message ≡ length message₀)
+    × (length numbers ≡ length numbers₀)
 
 abbrev μ-loop : tie.MeasureT-loop
-μ-loop input list₀ matrix₀ work₀ message₀ from₀ list matrix work message from = length input + 1 - from
+μ-loop input list₀ matrix₀ work₀ message₀ numbers₀ from₀ list matrix work message numbers from = length input + 1 - from
 
 loop-holds : tie.Need-loop-holds Inv-loop μ-loop
 loop-holds c = search needs
@@ -57,6 +58,9 @@ same-length-3 c = search needs
 same-length-4 : tie.Need-same-length-4 Inv-loop μ-loop
 same-length-4 c = search needs
 
+same-length-5 : tie.Need-same-length-5 Inv-loop μ-loop
+same-length-5 c = search needs
+
 returns : tie.Need-returns Inv-loop μ-loop
 returns c = search needs
 
@@ -79,4 +83,5 @@ run-lines-spec =
     same-length-2
     same-length-3
     same-length-4
+    same-length-5
     returns)

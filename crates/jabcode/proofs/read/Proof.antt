@@ -13,9 +13,9 @@ enum-known-tested c = search needs
 
 read-legal-requires : tie.Need-read-legal-requires
 read-legal-requires c κs =
-    let legal = c .before .before .before in
+    let legal = c .before .before .before .before in
     let told = legal .before .before in
-    let a = told .before .before .before .before .before .args in
+    let a = told .before .before .before .before .before .before .args in
     legal-input (a .p) (a .list .now) (length (a .matrix .now)) (length (a .work .now)) (told .front-tests .ensures)
     (legal .tested .given .1)
 
@@ -31,6 +31,9 @@ same-length c = search needs
 same-length-2 : tie.Need-same-length-2
 same-length-2 c = search needs
 
+same-length-3 : tie.Need-same-length-3
+same-length-3 c = search needs
+
 returns : tie.Need-returns
 returns c = search needs
 
@@ -38,8 +41,8 @@ returns-2 : tie.Need-returns-2
 returns-2 c =
     let refused = c .before .before in
     let told = refused .before .before in
-    let a = told .before .before .before .before .before .args in
-    read-refused (a .p) (a .list .now) (a .matrix .now) (a .work .now) (a .message .now) (told .front-tests .ensures)
+    let a = told .before .before .before .before .before .before .args in
+    read-refused (a .p) (a .list .now) (a .matrix .now) (a .work .now) (a .message .now) (a .places .now) (told .front-tests .ensures)
     (refused .tested2 .given .1) (c .refused .ensures)
 
 pub read-spec : {M : Type 1} → statement M
@@ -53,5 +56,6 @@ read-spec =
     refused-requires
     same-length
     same-length-2
+    same-length-3
     returns
     returns-2)

@@ -26,6 +26,9 @@ returns c =
     not-written (a .p) (a .list .now) (a .message .now) (a .matrix .now) (a .work .now) (a .back .now) (written .write .ensures)
     (done .if1 .taken) (c .refused .ensures)
 
+slice-aggregate-read : tie.Need-slice-aggregate-read
+slice-aggregate-read c = search needs
+
 read-requires : tie.Need-read-requires
 read-requires c κs = search needs
 
@@ -40,8 +43,8 @@ same-length-5 c = search needs
 
 returns-2 : tie.Need-returns-2
 returns-2 c =
-    let reading = c .before .before .before .before in
-    let done = reading .before .before .before .before in
+    let reading = c .before .before .before .before .before in
+    let done = reading .before .before .before .before .before in
     let written = done .before .before .before .before .before .before in
     let message = written .before .before .before .before .before .before in
     let a = message .before .before .args in
@@ -57,6 +60,7 @@ write-and-read-spec =
     same-length
     same-length-2
     returns
+    slice-aggregate-read
     read-requires
     same-length-3
     same-length-4

@@ -8,10 +8,10 @@ use Rattle.label_codec.proofs.print_numbers.Statement.{statement}
 use Rattle.label_codec.proofs.print_numbers.Tie as tie
 
 abbrev Inv-loop : tie.InvT-loop
-Inv-loop numbers i₀ t3 t4 i = (i ≤ length numbers) × (length t3 ≡ 1) × (length t4 ≡ 1)
+Inv-loop numbers i₀ t3 i = (i ≤ length numbers) × (length t3 ≡ 1)
 
 abbrev μ-loop : tie.MeasureT-loop
-μ-loop numbers i₀ t3 t4 i = length numbers - i
+μ-loop numbers i₀ t3 i = length numbers - i
 
 loop-holds : tie.Need-loop-holds Inv-loop μ-loop
 loop-holds c = search needs
@@ -40,12 +40,6 @@ loop-less c = search needs
 loop-again : tie.Need-loop-again Inv-loop μ-loop
 loop-again c = search needs
 
-slice-aggregate-write-all-2 : tie.Need-slice-aggregate-write-all-2 Inv-loop μ-loop
-slice-aggregate-write-all-2 c = search needs
-
-write-all-requires-2 : tie.Need-write-all-requires-2 Inv-loop μ-loop
-write-all-requires-2 c κs = search needs
-
 returns : tie.Need-returns Inv-loop μ-loop
 returns c = search needs
 
@@ -64,6 +58,4 @@ print-numbers-spec =
     add-i
     loop-less
     loop-again
-    slice-aggregate-write-all-2
-    write-all-requires-2
     returns)

@@ -20,8 +20,11 @@ add-word c = search needs
 add-numbers : tie.Need-add-numbers
 add-numbers c = search needs
 
-mul-t6 : tie.Need-mul-t6
-mul-t6 c = search needs
+mul-message : tie.Need-mul-message
+mul-message c = search needs
+
+add-message : tie.Need-add-message
+add-message c = search needs
 
 add-t7 : tie.Need-add-t7
 add-t7 c = search needs
@@ -31,4 +34,5 @@ unfolding areasOf
 returns c = refl
 
 pub areas-for-spec : {M : Type 1} → statement M
-areas-for-spec = tie.close (tie.spec add-stride mul-marks add-marks add-word add-numbers mul-t6 add-t7 returns)
+areas-for-spec =
+    tie.close (tie.spec add-stride mul-marks add-marks add-word add-numbers mul-message add-message add-t7 returns)

@@ -43,9 +43,11 @@ returns : tie.Need-returns
 returns c =
     let took = c .before .before .before .before in
     let start = took .before .before .before .before in
-    let a = start .args in
-    spare-one (a .s) (wordIn (a .a) (a .work .now)) (a .c) (a .room) (a .message .now)
-    (sym (spare-told (start .pre .0) (taken took)) ∙ c .before .if1 .taken) (c .counted .ensures)
+    let a = start .args in (
+      spare-one (a .s) (wordIn (a .a) (a .work .now)) (a .c) (a .room) (a .message .now)
+          (sym (spare-told (start .pre .0) (taken took)) ∙ c .before .if1 .taken) (c .counted .ensures),
+      taken took .changed,
+    )
 
 add-end : tie.Need-add-end
 add-end c =
@@ -80,11 +82,13 @@ returns-2 c =
     let took = passed .before .before .before in
     let start = took .before .before .before .before in
     let a = start .args in
-    let room = start .pre .0 in
-    spare-none (a .s) (wordIn (a .a) (a .work .now)) (a .c) (a .room) (a .message .now)
-    (sym (spare-told room (taken took)) ∙ passed .if1 .left)
-    (net-lent (took .take-message .last .0) room ∙ net-told room (taken took))
-    (streamed .read-net .ensures) (c .from-stream .ensures)
+    let room = start .pre .0 in (
+      spare-none (a .s) (wordIn (a .a) (a .work .now)) (a .c) (a .room) (a .message .now)
+          (sym (spare-told room (taken took)) ∙ passed .if1 .left)
+          (net-lent (took .take-message .last .0) room ∙ net-told room (taken took))
+          (streamed .read-net .ensures) (c .from-stream .ensures),
+      taken took .changed,
+    )
 
 pub from-accepted-spec : {M : Type 1} → statement M
 from-accepted-spec =

@@ -20,17 +20,23 @@ same-length c = search needs
 same-length-2 : tie.Need-same-length-2
 same-length-2 c = search needs
 
+same-length-3 : tie.Need-same-length-3
+same-length-3 c = search needs
+
 returns : tie.Need-returns
 returns c =
     let cleared = c .before .before in
-    let read = cleared .before .before .before .before .before .before in
-    let start = read .before .before .before .before .before .before .before in
+    let lent = cleared .before .before .before .before in
+    let read = lent .before .before .before .before in
+    let given = read .before .before .before .before in
+    let start = given .before .before .before .before .before in
     let r = read .read-uncleared in
     let a = start .args in
-    reads-are (a .p) (a .list .now) (a .matrix .now) (a .work .now) (a .message .now) (r .ensures .answer-is) (r .ensures .message-is)
+    reads-are (a .p) (a .list .now) (a .matrix .now) (a .work .now) (a .message .now) (a .places .now) (r .ensures .answered .answer-is)
+    (r .ensures .answered .message-is) (r .ensures .places-are)
     (cleared-whole (r .last .1 .1 .1 .0) (cleared .clear .last .0) (r .kept .1 .1 .1 .0) (cleared .clear .ensures)
     ∙ sym (work-cleared (a .p) (a .list .now) (a .work .now) (length (a .matrix .now)) (start .pre .0)))
 
 pub read-legal-spec : {M : Type 1} → statement M
 read-legal-spec =
-    tie.close (tie.spec read-uncleared-requires clear-requires same-length same-length-2 returns)
+    tie.close (tie.spec read-uncleared-requires clear-requires same-length same-length-2 same-length-3 returns)

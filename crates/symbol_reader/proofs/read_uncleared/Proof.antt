@@ -16,10 +16,12 @@ known s = legal (s .args .p) (s .args .list .now) (length (s .args .matrix .now)
 
 -- the sizes and the areas
 laid : (c : tie.After-areas-for)
-    → let a = c .before .before .before .before .before .before .before .args in
+    → let free = c .before in
+    let a = free .before .before .before .before .before .before .before .args in
     Sized (a .p) (a .list .now) (length (a .matrix .now)) (a .work .now) (a .s) (c .areas-for .result)
 laid c =
-    let start = c .before .before .before .before .before .before .before in
+    let free = c .before in
+    let start = free .before .before .before .before .before .before .before in
     let a = start .args in
     sized (a .p) (a .list .now) (length (a .matrix .now)) (a .work .now) (known start) (start .pre .1) (c .areas-for .ensures)
 
@@ -32,14 +34,14 @@ refused-requires c κs = search needs
 returns : tie.Need-returns
 returns c =
     let found = c .before .before in
-    let start = found .before .before .before .before .before in
+    let start = found .before .before .before .before .before .before in
     let a = start .args in
-    bad-module (a .p) (a .list .now) (a .matrix .now) (length (a .work .now)) (a .room) (a .message .now) (start .pre .0)
+    bad-module (a .p) (a .list .now) (a .matrix .now) (length (a .work .now)) (a .room) (a .message .now) (a .places .now) (start .pre .0)
     (found .first-bad-module .ensures) (c .before .if1 .taken) (c .refused .ensures)
 
 areas-for-requires : tie.Need-areas-for-requires
 areas-for-requires c κs =
-    let start = c .before .before .before .before .before .before in
+    let start = c .before .before .before .before .before .before .before in
     legal-sizes (start .args .p) (start .args .list .now) (known start .symbol) (start .pre .1)
 
 add-seam : tie.Need-add-seam
@@ -49,7 +51,10 @@ add-seam c =
 
 add-end : tie.Need-add-end
 add-end c =
-    omega (arith, bits-fit (laid (c .before .before)))
+    let areas = c .before .before in
+    let free = areas .before in
+    let start = free .before .before .before .before .before .before .before in
+    omega (arith, bits-fit (laid areas), start .good .1 .1 .1 .0 .0)
 
 sub-receive : tie.Need-sub-receive
 sub-receive c = search needs
@@ -79,7 +84,8 @@ part-wrong-stuffing-end : tie.Need-part-wrong-stuffing-end
 part-wrong-stuffing-end c =
     let received = c .before .before .before in
     let areas = received .before .before .before .before in
-    let start = areas .before .before .before .before .before .before .before in
+    let free = areas .before in
+    let start = free .before .before .before .before .before .before .before in
     let k = laid areas in
     omega (arith, bits-fit k, same-room k (start .args .matrix .now) (received .receive .ensures))
 
@@ -88,10 +94,11 @@ wrong-stuffing-requires c κs = search needs
 
 from-received-requires : tie.Need-from-received-requires
 from-received-requires c κs =
-    let told = c .before .before in
+    let told = c .before .before .before in
     let received = told .before .before .before .before .before in
     let areas = received .before .before .before .before in
-    let start = areas .before .before .before .before .before .before .before in
+    let free = areas .before in
+    let start = free .before .before .before .before .before .before .before in
     word-asks (laid areas) (start .args .matrix .now) (received .receive .ensures)
 
 same-length : tie.Need-same-length
@@ -100,17 +107,20 @@ same-length c = search needs
 same-length-2 : tie.Need-same-length-2
 same-length-2 c = search needs
 
+same-length-3 : tie.Need-same-length-3
+same-length-3 c = search needs
+
 returns-2 : tie.Need-returns-2
 returns-2 c =
-    let onward = c .before .before .before .before in
-    let told = onward .before .before .before in
+    let onward = c .before .before .before .before .before .before in
+    let told = onward .before .before .before .before in
     let received = told .before .before .before .before .before in
     let areas = received .before .before .before .before in
     let free = areas .before in
-    let start = free .before .before .before .before .before .before in
+    let start = free .before .before .before .before .before .before .before in
     let a = start .args in
     let k = laid areas in
-    good-matrix (a .p) (a .list .now) (a .matrix .now) (length (a .work .now)) (a .room) (a .message .now) (start .pre .0)
+    good-matrix (a .p) (a .list .now) (a .matrix .now) (length (a .work .now)) (a .room) (a .message .now) (a .places .now) (start .pre .0)
     (free .before .first-bad-module .ensures) (free .if1 .left) (k .sizes-are)
     (word-received k (a .matrix .now) (received .receive .ensures))
     (stuffing-told k (a .matrix .now) (received .receive .ensures) (told .wrong-stuffing .ensures)) (onward .from-received .ensures)
@@ -136,4 +146,5 @@ read-uncleared-spec =
     from-received-requires
     same-length
     same-length-2
+    same-length-3
     returns-2)
