@@ -31,7 +31,7 @@ use Rattle.calls.specs.Tests.{Row, first_of, stuck_word, short_places, size_rows
 use Rattle.calls.specs.Tests.{accepted_rows, received_rows, is_legal, reaches_checks}
 use Rattle.calls.specs.Write.{write_answer, matrix_after_write, work_after}
 use Rattle.calls.specs.Read.{message_in_accepted, message_in, front_after, answer_from_accepted}
-use Rattle.calls.specs.Read.{counts_of, answer_from_received, read_answer_lem, read_rows}
+use Rattle.calls.specs.Read.{counts_of, answer_from_received, read_answer, read_rows}
 use Rattle.call_laws.proofs.Tests.{each_all, each_computed, each_map, each_other, numbers_of, first_append, first_map, first_keeps}
 use Rattle.call_laws.proofs.Stages.{accepted_table, reaches_legal, read_keeps}
 
@@ -55,8 +55,8 @@ head_of a = answer a.number a.place
 
 -- Number and place of a read are those of the first row whose test holds, and 0 where none does.
 pub read_table : (p : Params) (l matrix : List ℕ) (work room slots : ℕ)
-    → head_of (read_answer_lem p l matrix work room slots) ≡ first_of answer (read_rows p l matrix work room slots) (answer 0 0)
-unfolding read_answer_lem read_rows received_rows answer_from_received
+    → head_of (read_answer p l matrix work room slots) ≡ first_of answer (read_rows p l matrix work room slots) (answer 0 0)
+unfolding read_answer read_rows received_rows answer_from_received
 read_table p l matrix work room slots =
     let s : Sizes = sizes_for p l in
     let w : List ℕ = received_word p l matrix in
@@ -128,7 +128,7 @@ late_is c few r f =
 
 -- A read answers 0 to 5, 7, 9 to 14 or 16; its place is 0 but with 2 and 7, a refusal has length 0, with 1 to 7 the counts are 0,
 -- and at most 8 stuffing bits are wrong.
-pub read_answer_lem : (p : Params) (l matrix : List ℕ) (work room slots : ℕ) → ReadAnswerIs (read_answer_lem p l matrix work room slots)
+pub read_answer_lem : (p : Params) (l matrix : List ℕ) (work room slots : ℕ) → ReadAnswerIs (read_answer p l matrix work room slots)
 unfolding all_hold has size_rows front_rows early_rows stream_rows accepted_rows received_rows regular late
 read_answer_lem p l matrix work room slots =
     let c : Counts = counts_of p l matrix in
@@ -157,8 +157,8 @@ pub never_zero : (Q : ReadAnswer → Type 0) (p : Params) (l matrix : List ℕ) 
     (counts_of p l matrix).repairs ≤ slots
     → length m ≤ room
     → Q (done (counts_of p l matrix) (length m)))
-    → (read_answer_lem p l matrix work room slots).number ≡ 0
-    → Q (read_answer_lem p l matrix work room slots)
+    → (read_answer p l matrix work room slots).number ≡ 0
+    → Q (read_answer p l matrix work room slots)
 unfolding has size_rows front_rows early_rows stream_rows accepted_rows received_rows message_in
 never_zero Q p l matrix work room slots last =
     read_keeps p l matrix work room slots (λ (a : ReadAnswer). a.number ≡ 0 → Q a)
@@ -170,14 +170,14 @@ never_zero Q p l matrix work room slots last =
 
 -- On 0 the length is the message's, and the message fits in its buffer.
 pub read_length : (p : Params) (l matrix : List ℕ) (work room slots : ℕ)
-    → (read_answer_lem p l matrix work room slots).number ≡ 0
-    → ((read_answer_lem p l matrix work room slots).length ≡ length (message_in p l matrix)) × (length (message_in p l matrix) ≤ room)
+    → (read_answer p l matrix work room slots).number ≡ 0
+    → ((read_answer p l matrix work room slots).length ≡ length (message_in p l matrix)) × (length (message_in p l matrix) ≤ room)
 read_length p l matrix work room slots =
     let m : ℕ = length (message_in p l matrix) in
     never_zero (λ (a : ReadAnswer). (a.length ≡ m) × (m ≤ room)) p l matrix work room slots (λ enough fits. (refl, fits))
 
 -- Every answer's length fits in the message buffer.
-pub read_fits : (p : Params) (l matrix : List ℕ) (work room slots : ℕ) → (read_answer_lem p l matrix work room slots).length ≤ room
+pub read_fits : (p : Params) (l matrix : List ℕ) (work room slots : ℕ) → (read_answer p l matrix work room slots).length ≤ room
 read_fits p l matrix work room slots =
     let Q : ReadAnswer → Type 0 = λ a. a.length ≤ room in
     let c : Counts = counts_of p l matrix in
@@ -269,12 +269,12 @@ front_done number n stored before e long =
 
 -- A read that is done changes as many bytes as its answer's length says, the first ones; the others are as they came.
 pub done_read : (p : Params) (l matrix before : List ℕ) (work slots : ℕ)
-    → let a = read_answer_lem p l matrix work (length before) slots in
+    → let a = read_answer p l matrix work (length before) slots in
     a.number ≡ 0
     → let after = front_after a.number (message_in p l matrix) before in
     (length after ≡ length before) × (take a.length after ≡ message_in p l matrix) × (drop a.length after ≡ drop a.length before)
 done_read p l matrix before work slots e =
-    let a : ReadAnswer = read_answer_lem p l matrix work (length before) slots in
+    let a : ReadAnswer = read_answer p l matrix work (length before) slots in
     front_done a.number a.length (message_in p l matrix) before e (read_length p l matrix work (length before) slots e)
 
 -- A call that passes test 5 leaves the work buffer all zero, its length as it was.

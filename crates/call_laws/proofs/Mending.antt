@@ -25,7 +25,7 @@ use Rattle.calls.specs.declared.Counts.{Counts}
 use Rattle.calls.specs.declared.ReadAnswer.{ReadAnswer}
 use Rattle.calls.specs.Answers.{counted, counts_in}
 use Rattle.calls.specs.Tests.{Row, short_places, stream_rows, accepted_rows, received_rows, reaches_checks}
-use Rattle.calls.specs.Read.{message_in, places_in, front_after, answer_from_accepted, answer_from_received, received_counts, read_answer_lem, counts_of}
+use Rattle.calls.specs.Read.{message_in, places_in, front_after, answer_from_accepted, answer_from_received, received_counts, read_answer, counts_of}
 use Rattle.calls.specs.Write.{work_after}
 use Rattle.calls.specs.Mending.{Mends}
 use Rattle.calls.specs.Promises.{Reads}
@@ -51,7 +51,7 @@ module _ (p : Params) (l matrix before slice : List ℕ) (work : ℕ) (reaching 
 
   -- the answer, and the one that the read gives where the rule's last word is accepted and the places fit
   abbrev answered : ReadAnswer
-  answered = read_answer_lem p l matrix work (length before) (length slice)
+  answered = read_answer p l matrix work (length before) (length slice)
 
   abbrev onward : ReadAnswer
   onward = answer_from_accepted (sizes_for p l) (last_word checks word) counts (length before)
@@ -149,7 +149,7 @@ module _ (p : Params) (l matrix before slice : List ℕ) (work : ℕ) (reaching 
 -- the received word to its end.
 pub mends : (p : Params) (l matrix before slice : List ℕ) (work : ℕ)
     → reaches_checks p l matrix work ≡ true
-    → let a = read_answer_lem p l matrix work (length before) (length slice) in
+    → let a = read_answer p l matrix work (length before) (length slice) in
     Mends p l matrix before slice a
     (front_after a.number (message_in p l matrix) before) (front_after a.number (places_in p l matrix) slice)
 unfolding message_in
@@ -158,7 +158,7 @@ mends p l matrix before slice work reaching =
     let w : List ℕ = received_word p l matrix in
     let once : AllOnce cs = symbol_once (sizes_for p l) in
     let bits : AllBits w = received_bits_lem p l matrix in
-    let a : ReadAnswer = read_answer_lem p l matrix work (length before) (length slice) in
+    let a : ReadAnswer = read_answer p l matrix work (length before) (length slice) in
     let same : counts_in a ≡ counts_of p l matrix = reported p l matrix before slice work reaching in
     let repairs : a.repairs ≡ length (repairs_of cs w) = ap (λ (c : Counts). c.repairs) same in
     let unmet : a.unmet ≡ unmet_count cs w = ap (λ (c : Counts). c.unmet) same in
@@ -190,7 +190,7 @@ mends p l matrix before slice work reaching =
 
 -- A read that gives the defined answer and leaves the defined buffers is all that `Reads` says: it mends as the definition does.
 pub reads_are : (p : Params) (l matrix work message places : List ℕ) {a : ReadAnswer} {work' message' places' : List ℕ}
-    → a ≡ read_answer_lem p l matrix (length work) (length message) (length places)
+    → a ≡ read_answer p l matrix (length work) (length message) (length places)
     → message' ≡ front_after a.number (message_in p l matrix) message
     → places' ≡ front_after a.number (places_in p l matrix) places
     → work' ≡ work_after p l (length matrix) work

@@ -26,10 +26,10 @@ use Rattle.laws.proofs.Written.{net_of, word_of, written_length, written_below, 
 use Rattle.calls.specs.declared.Answer.{Answer}
 use Rattle.calls.specs.declared.Counts.{Counts}
 use Rattle.calls.specs.Answers.{answer, no_counts, done}
-use Rattle.calls.specs.Tests.{first_of, passes, no_room_lem, front_rows, write_rows, early_rows, is_legal, reaches_checks}
+use Rattle.calls.specs.Tests.{first_of, passes, no_room, front_rows, write_rows, early_rows, is_legal, reaches_checks}
 use Rattle.calls.specs.Write.{write_answer, matrix_after_write}
 use Rattle.calls.specs.Read.{message_in_accepted, message_in, places_in, front_after, answer_from_accepted, mended_counts}
-use Rattle.calls.specs.Read.{answer_from_received, received_counts, read_answer_lem}
+use Rattle.calls.specs.Read.{answer_from_received, received_counts, read_answer}
 use Rattle.call_laws.proofs.Tests.{Legal, legal, legal_is, pass_append, pass_front, first_append, first_hit}
 use Rattle.call_laws.proofs.Tests.{first_miss, first_none, first_passed, zero_passes, write_numbered}
 use Rattle.call_laws.proofs.Stages.{accepted_message, accepted_done, from_mended, reaches_gives}
@@ -92,7 +92,7 @@ module _ (p : Params) (l : List ℕ) {stream message : List ℕ} (k : LegalSymbo
     pub write_read : (work room slots : ℕ)
         → sizes.work ≤ work
         → length message ≤ room
-        → read_answer_lem p l matrix work room slots ≡ done no_counts (length message)
+        → read_answer p l matrix work room slots ≡ done no_counts (length message)
     write_read work room slots enough long =
         let got : Counts = received_counts p l matrix in
         let free : stuck checks word ≡ false = met_not_stuck checks word (ap (unmet_count checks) unturned ∙ met) in
@@ -130,7 +130,7 @@ pub record WritesAndReads (p : Params) (l stream matrix : List ℕ) (work : ℕ)
       → (sizes_for p l).work ≤ readWork
       → length message ≤ length buffer
       → let after = matrix_after_write p l stream work matrix in
-      let a = read_answer_lem p l after readWork (length buffer) (length places) in
+      let a = read_answer p l after readWork (length buffer) (length places) in
       (a ≡ done no_counts (length message))
       × (front_after a.number (message_in p l after) buffer ≡ message ++ drop (length message) buffer)
       × (front_after a.number (places_in p l after) places ≡ places)
@@ -140,11 +140,11 @@ module _ (p : Params) (l stream matrix : List ℕ) (work : ℕ) (e : is_legal p 
   after = matrix_after_write p l stream work matrix
 
   -- a write that has passed the tests 1 to 5
-  write_legal : write_answer p l stream (length matrix) work ≡ first_of answer (no_room_lem p l stream ∷ []) (answer 0 0)
+  write_legal : write_answer p l stream (length matrix) work ≡ first_of answer (no_room p l stream ∷ []) (answer 0 0)
   unfolding write_answer write_rows is_legal
   write_legal =
-      first_append answer (front_rows p l (length matrix) work) (no_room_lem p l stream ∷ []) (answer 0 0)
-      ∙ first_passed answer (front_rows p l (length matrix) work) (first_of answer (no_room_lem p l stream ∷ []) (answer 0 0)) e
+      first_append answer (front_rows p l (length matrix) work) (no_room p l stream ∷ []) (answer 0 0)
+      ∙ first_passed answer (front_rows p l (length matrix) work) (first_of answer (no_room p l stream ∷ []) (answer 0 0)) e
 
   matrix_at : (a : Answer)
       → write_answer p l stream (length matrix) work ≡ a
@@ -155,17 +155,17 @@ module _ (p : Params) (l stream matrix : List ℕ) (work : ℕ) (e : is_legal p 
   write_denied : (sizes_for p l).net < suc (length stream)
       → (write_answer p l stream (length matrix) work ≡ answer 6 0) × (after ≡ matrix)
   write_denied h =
-      let holds : (no_room_lem p l stream).test ≡ true = lt-ltb (sizes_for p l).net (suc (length stream)) h in
+      let holds : (no_room p l stream).test ≡ true = lt-ltb (sizes_for p l).net (suc (length stream)) h in
       let six : write_answer p l stream (length matrix) work ≡ answer 6 0 =
-      write_legal ∙ first_hit answer (no_room_lem p l stream) [] (answer 0 0) holds in
+      write_legal ∙ first_hit answer (no_room p l stream) [] (answer 0 0) holds in
       (six, matrix_at (answer 6 0) six)
 
   write_done : suc (length stream) ≤ (sizes_for p l).net
       → (write_answer p l stream (length matrix) work ≡ answer 0 0) × (after ≡ written_matrix p l stream)
   write_done h =
-      let fails : (no_room_lem p l stream).test ≡ false = le-ltb (sizes_for p l).net (suc (length stream)) h in
+      let fails : (no_room p l stream).test ≡ false = le-ltb (sizes_for p l).net (suc (length stream)) h in
       let zero_is : write_answer p l stream (length matrix) work ≡ answer 0 0 =
-      write_legal ∙ first_miss answer (no_room_lem p l stream) [] (answer 0 0) fails ∙ first_none answer (answer 0 0) in
+      write_legal ∙ first_miss answer (no_room p l stream) [] (answer 0 0) fails ∙ first_none answer (answer 0 0) in
       (zero_is, matrix_at (answer 0 0) zero_is)
 
   read_written : (message buffer places : List ℕ) (readWork : ℕ)
@@ -173,15 +173,15 @@ module _ (p : Params) (l stream matrix : List ℕ) (work : ℕ) (e : is_legal p 
       → suc (length stream) ≤ (sizes_for p l).net
       → (sizes_for p l).work ≤ readWork
       → length message ≤ length buffer
-      → let a = read_answer_lem p l after readWork (length buffer) (length places) in
+      → let a = read_answer p l after readWork (length buffer) (length places) in
       (a ≡ done no_counts (length message))
       × (front_after a.number (message_in p l after) buffer ≡ message ++ drop (length message) buffer)
       × (front_after a.number (places_in p l after) places ≡ places)
   read_written message buffer places readWork reads fits enough long =
       let k : LegalSymbol p l = (legal p l (length matrix) work e).symbol in
       let same : after ≡ written_matrix p l stream = (write_done fits).1 in
-      let read : read_answer_lem p l after readWork (length buffer) (length places) ≡ done no_counts (length message) =
-      ap (λ (x : List ℕ). read_answer_lem p l x readWork (length buffer) (length places)) same
+      let read : read_answer p l after readWork (length buffer) (length places) ≡ done no_counts (length message) =
+      ap (λ (x : List ℕ). read_answer p l x readWork (length buffer) (length places)) same
       ∙ write_read p l k reads fits readWork (length buffer) (length places) enough long in
       let found : message_in p l after ≡ message = ap (message_in p l) same ∙ write_read_bytes p l k reads fits in
       let none : places_in p l after ≡ [] = ap (places_in p l) same ∙ write_read_places p l k reads in
@@ -206,7 +206,7 @@ done_legal : (p : Params) (l stream : List ℕ) (modules work : ℕ) → (write_
 unfolding write_answer write_rows is_legal
 done_legal p l stream modules work e =
     legal p l modules work
-    (pass_front (front_rows p l modules work) (no_room_lem p l stream ∷ [])
+    (pass_front (front_rows p l modules work) (no_room p l stream ∷ [])
     (zero_passes (write_rows p l stream modules work) (write_numbered p l modules work stream) refl e))
 
 -- A write, done or refused, leaves the matrix as long as it came.

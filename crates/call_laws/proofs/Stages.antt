@@ -27,7 +27,7 @@ use Rattle.calls.specs.Answers.{no_counts, counted, refused, done, from_stream, 
 use Rattle.calls.specs.Tests.{Row, first_of, passes, spare_one, stuck_word, short_places, size_rows, front_rows}
 use Rattle.calls.specs.Tests.{early_rows, stream_rows, accepted_rows, received_rows, is_legal, reaches_checks}
 use Rattle.calls.specs.Read.{message_in_net, message_in_accepted, stream_answer, answer_from_accepted, mended_counts, answer_from_received}
-use Rattle.calls.specs.Read.{received_counts, read_answer_lem, counts_of}
+use Rattle.calls.specs.Read.{received_counts, read_answer, counts_of}
 use Rattle.call_laws.proofs.Tests.{Each, each_all, each_computed, each_map, each_listed, numbers_of}
 use Rattle.call_laws.proofs.Tests.{pass_fails, pass_front, pass_behind, first_append, first_hit, first_miss}
 use Rattle.call_laws.proofs.Tests.{first_none, first_passed, first_keeps, first_map, Legal, legal}
@@ -208,8 +208,8 @@ module _ (p : Params) (l matrix : List ℕ) (work : ℕ) where
   -- Its answer is the one from its received word.
   pub reaches_gives : (room slots : ℕ)
       → reaches_checks p l matrix work ≡ true
-      → read_answer_lem p l matrix work room slots ≡ answer_from_received sizes word got room slots
-  unfolding reaches_checks read_answer_lem
+      → read_answer p l matrix work room slots ≡ answer_from_received sizes word got room slots
+  unfolding reaches_checks read_answer
   reaches_gives room slots e = first_passed refused (early_rows p l matrix work) (answer_from_received sizes word got room slots) e
 
   module _ (room slots : ℕ) where
@@ -224,8 +224,8 @@ module _ (p : Params) (l matrix : List ℕ) (work : ℕ) where
         (counts_of p l matrix).repairs ≤ slots
         → length m ≤ room
         → Q (done (counts_of p l matrix) (length m)))
-        → Q (read_answer_lem p l matrix work room slots)
-    unfolding reaches_checks read_answer_lem
+        → Q (read_answer p l matrix work room slots)
+    unfolding reaches_checks read_answer
     read_keeps Q early late fits =
         first_keeps refused Q (early_rows p l matrix work) (answer_from_received sizes word got room slots) early
         (λ e. received_keeps sizes word got room slots Q (late e) (fits e))
@@ -233,9 +233,9 @@ module _ (p : Params) (l matrix : List ℕ) (work : ℕ) where
     -- ---- reaching the checks
 
     -- A read whose answer is none of the numbers before 9 has reached the checks.
-    pub reaches_when : has (read_answer_lem p l matrix work room slots).number (1 ∷ 2 ∷ 3 ∷ 4 ∷ 5 ∷ 7 ∷ []) ≡ false
+    pub reaches_when : has (read_answer p l matrix work room slots).number (1 ∷ 2 ∷ 3 ∷ 4 ∷ 5 ∷ 7 ∷ []) ≡ false
         → reaches_checks p l matrix work ≡ true
-    unfolding reaches_checks read_answer_lem size_rows front_rows early_rows
+    unfolding reaches_checks read_answer size_rows front_rows early_rows
     reaches_when =
         let rs : List Row = early_rows p l matrix work in
         let Q : ReadAnswer → Type 0 = λ a. has a.number (numbers_of rs) ≡ false → passes rs ≡ true in
@@ -245,7 +245,7 @@ module _ (p : Params) (l matrix : List ℕ) (work : ℕ) where
 
     -- The answer of a read that reaches the checks is none of them.
     pub reaches_only : reaches_checks p l matrix work ≡ true
-        → has (read_answer_lem p l matrix work room slots).number (1 ∷ 2 ∷ 3 ∷ 4 ∷ 5 ∷ 7 ∷ []) ≡ false
+        → has (read_answer p l matrix work room slots).number (1 ∷ 2 ∷ 3 ∷ 4 ∷ 5 ∷ 7 ∷ []) ≡ false
     unfolding all_hold stream_rows accepted_rows received_rows has
     reaches_only e =
         let Q : ReadAnswer → Type 0 = λ a. has a.number (1 ∷ 2 ∷ 3 ∷ 4 ∷ 5 ∷ 7 ∷ []) ≡ false in
@@ -259,7 +259,7 @@ module _ (p : Params) (l matrix : List ℕ) (work : ℕ) where
     -- ---- the counts
 
     -- A read that reaches the checks has the counts of its matrix, whatever it answers.
-    pub reaches_counts : reaches_checks p l matrix work ≡ true → counts_in (read_answer_lem p l matrix work room slots) ≡ counts_of p l matrix
+    pub reaches_counts : reaches_checks p l matrix work ≡ true → counts_in (read_answer p l matrix work room slots) ≡ counts_of p l matrix
     reaches_counts e =
         let Q : ReadAnswer → Type 0 = λ a. counts_in a ≡ counts_of p l matrix in
         subst⁻¹ Q (reaches_gives room slots e)
@@ -267,7 +267,7 @@ module _ (p : Params) (l matrix : List ℕ) (work : ℕ) where
         (each_all (λ r. r.test ≡ true → Q (counted (counts_of p l matrix) r.number r.place)) (λ r t. refl) _) (λ few fits. refl))
 
     -- The counts of a read are its matrix's where it reaches the checks, and else 0: the room for message and places changes none.
-    pub read_counts : counts_in (read_answer_lem p l matrix work room slots) ≡ cond (reaches_checks p l matrix work) (counts_of p l matrix) no_counts
+    pub read_counts : counts_in (read_answer p l matrix work room slots) ≡ cond (reaches_checks p l matrix work) (counts_of p l matrix) no_counts
     read_counts =
         by (reaches_checks p l matrix work) (λ e. rw e (reaches_counts e))
         (λ e.
@@ -276,6 +276,6 @@ module _ (p : Params) (l matrix : List ℕ) (work : ℕ) where
         rw e (read_keeps Q early (λ t. clash t e) (λ t. clash t e)))
 
     -- Document 02, W-202: the wrong stuffing bits are counted in the answer of every read that passes 7, and 0 stands in others.
-    pub read_stuffing : (read_answer_lem p l matrix work room slots).stuffing ≡ cond (reaches_checks p l matrix work) (wrong_stuffing p l matrix) 0
+    pub read_stuffing : (read_answer p l matrix work room slots).stuffing ≡ cond (reaches_checks p l matrix work) (wrong_stuffing p l matrix) 0
     read_stuffing =
         ap (λ (c : Counts). c.stuffing) read_counts ∙ by (reaches_checks p l matrix work) (λ e. rw e refl) (λ e. rw e refl)

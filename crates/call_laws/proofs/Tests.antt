@@ -24,7 +24,7 @@ use Rattle.laws.proofs.Ranges.{or_left, or_right, lowest_holds, lowest_before, h
 use Rattle.laws.proofs.Sizes.{LegalSymbol}
 use Rattle.calls.specs.declared.Answer.{Answer}
 use Rattle.calls.specs.Answers.{answer}
-use Rattle.calls.specs.Tests.{Row, first_of, passes, no_room_lem, size_rows, front_rows, write_rows, is_legal}
+use Rattle.calls.specs.Tests.{Row, first_of, passes, no_room, size_rows, front_rows, write_rows, is_legal}
 
 -- ---- a fact of each row
 
@@ -309,4 +309,4 @@ module _ (p : Params) (l : List ℕ) (modules work : ℕ) where
   -- so has the test of a write
   pub write_numbered : (stream : List ℕ) → Each Numbered (write_rows p l stream modules work)
   unfolding write_rows Each
-  write_numbered stream = each_append Numbered (front_rows p l modules work) (no_room_lem p l stream ∷ []) front_numbered (omega arith, tt)
+  write_numbered stream = each_append Numbered (front_rows p l modules work) (no_room p l stream ∷ []) front_numbered (omega arith, tt)

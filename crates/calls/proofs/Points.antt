@@ -22,7 +22,7 @@ use Rattle.symbology.specs.Net.{up_to_last_one, stream_in, stuffing, exceeds, wi
 use Rattle.symbology.proofs.Parameters.{params_of}
 use Rattle.calls.specs.Tests.{first_of, size_rows, front_rows, write_rows, early_rows, stream_rows}
 use Rattle.calls.specs.Write.{write_answer}
-use Rattle.calls.specs.Read.{stream_answer, read_answer_lem}
+use Rattle.calls.specs.Read.{stream_answer, read_answer}
 
 -- two lists of numbers are equal
 unfoldable pub same : List ℕ → List ℕ → Bool
@@ -42,7 +42,7 @@ symbol version colours wc wr = rectangle version version colours wc wr
 -- the numbers that a write of the empty message and a read answer, with no list and empty buffers
 abbrev answered : ℕ → ℕ → List ℕ
 answered h v =
-    (write_answer (rectangle h v 8 4 9) [] (stream_of []) 0 0).number ∷ (read_answer_lem (rectangle h v 8 4 9) [] [] 0 0 0).number ∷ []
+    (write_answer (rectangle h v 8 4 9) [] (stream_of []) 0 0).number ∷ (read_answer (rectangle h v 8 4 9) [] [] 0 0 0).number ∷ []
 
 -- 24 entries, in the rows 1 and 21 of side-version 1, where no pattern lies
 abbrev entries24 : List ℕ
@@ -140,6 +140,6 @@ unfolding all_hold lowest tabulate has value bits any_one range_tests in_range c
     list_number list_place bits_per_module pattern_modules data_modules as_bits capacity sizes_of scaled raw_place place_of mul div of_int to_unsigned
     bit_sum unmet unmet_count unmet_at met_at is_suspect suspect turned ends repairs after_turns repairs_of places_of last_word stuck read_code
     read_codes decode byte_runs byte_stream up_to_last_one stream_in stuffing stream_of same first_of size_rows front_rows write_rows early_rows
-    stream_rows write_answer stream_answer read_answer_lem join_from near_core finder pattern_of in_squares colour_in meeting pattern_at covered
+    stream_rows write_answer stream_answer read_answer join_from near_core finder pattern_of in_squares colour_in meeting pattern_at covered
     pattern_colour entry_at first_entry bad_entry bad_at with_end_mark byte_bits run_count byte_run
 all_points = tt

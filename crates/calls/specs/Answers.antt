@@ -32,8 +32,8 @@ no_sizes number place =
     }
 
 -- 0, with the sizes
-abbrev pub the_sizes_lem : Sizes → SizesAnswer
-the_sizes_lem s =
+abbrev pub the_sizes : Sizes → SizesAnswer
+the_sizes s =
     record {
       number = 0;
       place = 0;

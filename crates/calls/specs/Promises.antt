@@ -11,7 +11,7 @@ use Rattle.calls.specs.declared.ReadAnswer.{ReadAnswer}
 use Rattle.calls.specs.Answers.{no_counts, refused, done}
 use Rattle.calls.specs.Tests.{is_legal, reaches_checks}
 use Rattle.calls.specs.Write.{write_answer, matrix_after_write, work_after}
-use Rattle.calls.specs.Read.{read_answer_lem, message_in, places_in, front_after}
+use Rattle.calls.specs.Read.{read_answer, message_in, places_in, front_after}
 use Rattle.calls.specs.Mending.{Mends}
 
 -- a write of a stream
@@ -22,7 +22,7 @@ pub record Writes (p : Params) (l stream matrix work : List ℕ) (a : Answer) (m
 
 -- a read, which mends by the rule where it reaches the checks
 pub record Reads (p : Params) (l matrix work message places : List ℕ) (a : ReadAnswer) (work' message' places' : List ℕ) : Type 0 where
-  pub answer_is : a ≡ read_answer_lem p l matrix (length work) (length message) (length places)
+  pub answer_is : a ≡ read_answer p l matrix (length work) (length message) (length places)
   pub message_is : message' ≡ front_after a.number (message_in p l matrix) message
   pub places_are : places' ≡ front_after a.number (places_in p l matrix) places
   pub work_is : work' ≡ work_after p l (length matrix) work
@@ -36,7 +36,7 @@ pub record Reads (p : Params) (l matrix work message places : List ℕ) (a : Rea
 unfoldable pub answer_read_back : Params → List ℕ → List ℕ → List ℕ → ℕ → ℕ → ReadAnswer
 answer_read_back p l stream matrix work room =
     let a = write_answer p l stream (length matrix) work in
-    cond (eqb a.number 0) (read_answer_lem p l (matrix_after_write p l stream work matrix) work room 0) (refused a.number a.place)
+    cond (eqb a.number 0) (read_answer p l (matrix_after_write p l stream work matrix) work room 0) (refused a.number a.place)
 
 -- Demand 2 about a call with legal parameters, list and buffers: `matrix` and `back` came, and `written` and `after` are what it left.
 pub record ReadsBack (p : Params) (l message matrix back : List ℕ) (a : ReadAnswer) (written after : List ℕ) : Type 0 where

@@ -74,8 +74,8 @@ abbrev pub received_counts : Params → List ℕ → List ℕ → Counts
 received_counts p l matrix = record { repairs = 0; unmet = 0; stuffing = wrong_stuffing p l matrix }
 
 -- the answer of a read with a work buffer of this length
-unfoldable pub read_answer_lem : Params → List ℕ → List ℕ → ℕ → ℕ → ℕ → ReadAnswer
-read_answer_lem p l matrix work room slots =
+unfoldable pub read_answer : Params → List ℕ → List ℕ → ℕ → ℕ → ℕ → ReadAnswer
+read_answer p l matrix work room slots =
     first_of refused (early_rows p l matrix work)
     (answer_from_received (sizes_for p l) (received_word p l matrix) (received_counts p l matrix) room slots)
 

@@ -42,8 +42,8 @@ passes (r ∷ rs) = not r.test && passes rs
 -- ---- the rows, with `l` for the reserved list
 
 -- a parameter is outside its range
-abbrev pub out_of_range_lem : Params → Row
-out_of_range_lem p = row (not (in_range p)) 1 0
+abbrev pub out_of_range : Params → Row
+out_of_range p = row (not (in_range p)) 1 0
 
 -- bad reserved list
 abbrev pub bad_list : Params → List ℕ → Row
@@ -64,8 +64,8 @@ abbrev pub short_work : Params → List ℕ → ℕ → Row
 short_work p l work = row (ltb work (sizes_for p l).work) 5 0
 
 -- stream + 1 exceeds Pn
-abbrev pub no_room_lem : Params → List ℕ → List ℕ → Row
-no_room_lem p l stream = row (exceeds (length stream) (sizes_for p l).net) 6 0
+abbrev pub no_room : Params → List ℕ → List ℕ → Row
+no_room p l stream = row (exceeds (length stream) (sizes_for p l).net) 6 0
 
 -- a module is N or more
 abbrev pub bad_module : Params → List ℕ → Row
@@ -105,7 +105,7 @@ overfull d room = row (ltb room (length d.bytes)) 14 0
 
 -- what needs no buffer
 unfoldable pub size_rows : Params → List ℕ → List Row
-size_rows p l = out_of_range_lem p ∷ bad_list p l ∷ bad_capacity p l ∷ []
+size_rows p l = out_of_range p ∷ bad_list p l ∷ bad_capacity p l ∷ []
 
 -- every call's tests first, for a matrix and a work buffer of these lengths
 unfoldable pub front_rows : Params → List ℕ → ℕ → ℕ → List Row
@@ -113,7 +113,7 @@ front_rows p l modules work = size_rows p l ++ (other_matrix p l modules ∷ sho
 
 -- a write of a stream
 unfoldable pub write_rows : Params → List ℕ → List ℕ → ℕ → ℕ → List Row
-write_rows p l stream modules work = front_rows p l modules work ++ (no_room_lem p l stream ∷ [])
+write_rows p l stream modules work = front_rows p l modules work ++ (no_room p l stream ∷ [])
 
 -- a read up to the checks
 unfoldable pub early_rows : Params → List ℕ → List ℕ → ℕ → List Row

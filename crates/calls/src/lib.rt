@@ -1,7 +1,7 @@
 // The answers of the calls and, in specs/, the definitions that the calls are held to: the tables of tests,
 // the whole write, the whole read, and what a call promises. Every answer is made by a function here.
 ghost use Rattle.std.specs.Prelude.{◌≡◌};
-ghost use Rattle.calls.specs.Answers.{answer, no_sizes, the_sizes_lem, stream_refused, stream_done, counted, refused, from_stream};
+ghost use Rattle.calls.specs.Answers.{answer, no_sizes, the_sizes, stream_refused, stream_done, counted, refused, from_stream};
 
 use symbology::Sizes;
 
@@ -82,7 +82,7 @@ pub fn no_sizes(number: u32, place: usize) -> SizesAnswer
 }
 
 pub fn the_sizes(s: Sizes) -> SizesAnswer
-    ensures { result ≡ the_sizes_lem s }
+    ensures { result ≡ the_sizes s }
 {
     SizesAnswer {
         number: 0,

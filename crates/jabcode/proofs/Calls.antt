@@ -13,9 +13,9 @@ use Rattle.laws.proofs.Ranges.{by}
 use Rattle.calls.specs.declared.Answer.{Answer}
 use Rattle.calls.specs.declared.ReadAnswer.{ReadAnswer}
 use Rattle.calls.specs.Answers.{answer, refused}
-use Rattle.calls.specs.Tests.{first_of, passes, no_room_lem, bad_module, front_rows, write_rows, early_rows, is_legal}
+use Rattle.calls.specs.Tests.{first_of, passes, no_room, bad_module, front_rows, write_rows, early_rows, is_legal}
 use Rattle.calls.specs.Write.{write_answer}
-use Rattle.calls.specs.Read.{message_in, places_in, answer_from_received, received_counts, read_answer_lem}
+use Rattle.calls.specs.Read.{message_in, places_in, answer_from_received, received_counts, read_answer}
 use Rattle.calls.specs.Promises.{Writes, Reads}
 use Rattle.call_laws.proofs.Tests.{first_append, first_passed, first_refuses, front_numbered}
 use Rattle.call_laws.proofs.Answers.{refused_write, refused_front, work_untouched}
@@ -59,7 +59,7 @@ write_refused p l stream matrix work {a = a} told e =
     let given = answer_is p l (length matrix) (length work) told e in
     let Some-number = some p l (length matrix) (length work) told e in
     let same : write_answer p l stream (length matrix) (length work) ≡ a =
-    first_append answer (front_rows p l (length matrix) (length work)) (no_room_lem p l stream ∷ []) (answer 0 0)
+    first_append answer (front_rows p l (length matrix) (length work)) (no_room p l stream ∷ []) (answer 0 0)
     ∙ first_refuses answer (front_rows p l (length matrix) (length work)) _ a given Some-number in
     let other : (write_answer p l stream (length matrix) (length work)).number ≡ 0 → ⊥ =
     λ z. Some-number (ap (λ (b : Answer). b.number) (sym same) ∙ z) in
@@ -75,13 +75,13 @@ pub read_refused : (p : Params) (l matrix work message places : List ℕ) {v : V
     → v ≡ Refused a
     → r ≡ refused a.number a.place
     → Reads p l matrix work message places r work message places
-unfolding read_answer_lem early_rows
+unfolding read_answer early_rows
 read_refused p l matrix work message places {a = a} {r} told e is =
     let given = answer_is p l (length matrix) (length work) told e in
     let Some-number = some p l (length matrix) (length work) told e in
     let onward : ReadAnswer =
     answer_from_received (sizes_for p l) (received_word p l matrix) (received_counts p l matrix) (length message) (length places) in
-    let same : read_answer_lem p l matrix (length work) (length message) (length places) ≡ refused a.number a.place =
+    let same : read_answer p l matrix (length work) (length message) (length places) ≡ refused a.number a.place =
     first_append refused (front_rows p l (length matrix) (length work)) (bad_module p matrix ∷ []) onward
     ∙ first_refuses refused (front_rows p l (length matrix) (length work)) _ a given Some-number in
     let other : r.number ≡ 0 → ⊥ = λ z. Some-number (sym (ap (λ (b : ReadAnswer). b.number) is) ∙ z) in

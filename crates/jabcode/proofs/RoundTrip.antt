@@ -21,7 +21,7 @@ use Rattle.calls.specs.declared.ReadAnswer.{ReadAnswer}
 use Rattle.calls.specs.Answers.{refused}
 use Rattle.calls.specs.Tests.{is_legal}
 use Rattle.calls.specs.Write.{write_answer, matrix_after_write, work_after}
-use Rattle.calls.specs.Read.{read_answer_lem, message_in, front_after}
+use Rattle.calls.specs.Read.{read_answer, message_in, front_after}
 use Rattle.calls.specs.Promises.{Writes, Reads, answer_read_back, WritesThenReads}
 use Rattle.call_laws.proofs.Tests.{legal}
 use Rattle.call_laws.proofs.Answers.{read_answer_lem, refused_front, work_cleared, work_untouched, length_work}
@@ -50,7 +50,7 @@ module _ (p : Params) (l message matrix work back : List ℕ) {a : Answer} {matr
   after = matrix_after_write p l stream (length work) matrix
 
   abbrev read : ReadAnswer
-  read = read_answer_lem p l after (length work) (length back) 0
+  read = read_answer p l after (length work) (length back) 0
 
   number_is : a.number ≡ defined.number
   number_is = ap (λ (b : Answer). b.number) w.answer_is
@@ -92,7 +92,7 @@ module _ (p : Params) (l message matrix work back : List ℕ) {a : Answer} {matr
       let long : length work' ≡ length work = ap length w.work_is ∙ length_work p l work (length matrix) in
       let modules : length matrix' ≡ length matrix = ap length w.matrix_is ∙ length_write p l stream matrix (length work) in
       let same : r ≡ read =
-      got.answer_is ∙ ap₂ (λ (x : List ℕ) (n : ℕ). read_answer_lem p l x n (length back) 0) w.matrix_is long in
+      got.answer_is ∙ ap₂ (λ (x : List ℕ) (n : ℕ). read_answer p l x n (length back) 0) w.matrix_is long in
       let given : cond (eqb defined.number 0) read (refused defined.number defined.place) ≡ read =
       rw (eq-eqb defined.number 0 zero_is) refl in
       record {

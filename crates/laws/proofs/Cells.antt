@@ -18,7 +18,7 @@ use Rattle.symbology.specs.declared.Cell.TheVariants.{Data, Fixed}
 use Rattle.symbology.specs.Ranges.{lowest}
 use Rattle.symbology.specs.Sides.{columns, rows}
 use Rattle.symbology.specs.Patterns.{covered, pattern_colour}
-use Rattle.symbology.specs.Reserved.{entries, entry_column, entry_row_lem, entry_colour, entry_at, first_entry}
+use Rattle.symbology.specs.Reserved.{entries, entry_column, entry_row, entry_colour, entry_at, first_entry}
 use Rattle.symbology.specs.Placement.{pattern_cell, cell_of, cell_at, on_cell, data_module, module_at, filled}
 use Rattle.symbology.proofs.Ranges.{clash, and_left, and_right}
 use Rattle.laws.proofs.Ranges.{by, lowest_holds, lowest_before}
@@ -28,19 +28,19 @@ use Rattle.laws.proofs.Placement.{get_or_filled}
 -- ---- cells
 
 -- an entry that stands at column x, row y
-stands_at : (l : List ℕ) (x y k : ℕ) → entry_at l x y k ≡ true → (entry_column l k ≡ x) × (entry_row_lem l k ≡ y)
+stands_at : (l : List ℕ) (x y k : ℕ) → entry_at l x y k ≡ true → (entry_column l k ≡ x) × (entry_row l k ≡ y)
 unfolding entry_at
 stands_at l x y k e =
     let a : Bool = eqb (entry_column l k) x in
-    let b : Bool = eqb (entry_row_lem l k) y in
-    (eqb-true (entry_column l k) x (and_left a b e), eqb-true (entry_row_lem l k) y (and_right a b e))
+    let b : Bool = eqb (entry_row l k) y in
+    (eqb-true (entry_column l k) x (and_left a b e), eqb-true (entry_row l k) y (and_right a b e))
 
 -- the first entry at an entry's place is that entry
 pub entry_first : (p : Params) (l : List ℕ) → SoundList p l → (k : ℕ) → k < entries l
-    → first_entry l (entries l) (entry_column l k) (entry_row_lem l k) ≡ k
+    → first_entry l (entries l) (entry_column l k) (entry_row l k) ≡ k
 unfolding first_entry
 entry_first p l s k h =
-    let f : ℕ → Bool = entry_at l (entry_column l k) (entry_row_lem l k) in
+    let f : ℕ → Bool = entry_at l (entry_column l k) (entry_row l k) in
     let i : ℕ = lowest f (entries l) 0 in
     elim (dec_lt k i) [
       | yes before ↦ clash (entry_own l k) (lowest_before f (entries l) 0 k (omega arith) before)
@@ -48,20 +48,20 @@ entry_first p l s k h =
         | yes same ↦ same
         | no other ↦
             let found = lowest_holds f (entries l) 0 (omega arith) in
-            absurd (earlier (omega arith) (stands_at l (entry_column l k) (entry_row_lem l k) i found))
+            absurd (earlier (omega arith) (stands_at l (entry_column l k) (entry_row l k) i found))
       ]
     ]
   where
-    earlier : lowest (entry_at l (entry_column l k) (entry_row_lem l k)) (entries l) 0 < k
-        → (entry_column l (lowest (entry_at l (entry_column l k) (entry_row_lem l k)) (entries l) 0) ≡ entry_column l k)
-        × (entry_row_lem l (lowest (entry_at l (entry_column l k) (entry_row_lem l k)) (entries l) 0) ≡ entry_row_lem l k)
+    earlier : lowest (entry_at l (entry_column l k) (entry_row l k)) (entries l) 0 < k
+        → (entry_column l (lowest (entry_at l (entry_column l k) (entry_row l k)) (entries l) 0) ≡ entry_column l k)
+        × (entry_row l (lowest (entry_at l (entry_column l k) (entry_row l k)) (entries l) 0) ≡ entry_row l k)
         → ⊥
     earlier less same =
-        let i : ℕ = lowest (entry_at l (entry_column l k) (entry_row_lem l k)) (entries l) 0 in
+        let i : ℕ = lowest (entry_at l (entry_column l k) (entry_row l k)) (entries l) 0 in
         entries_differ p l s i k less h same.0 same.1
 
 pub entry_cell : (p : Params) (l : List ℕ) → SoundList p l → (k : ℕ) → k < entries l
-    → cell_of p l (entry_column l k) (entry_row_lem l k) ≡ Fixed (entry_colour l k)
+    → cell_of p l (entry_column l k) (entry_row l k) ≡ Fixed (entry_colour l k)
 unfolding cell_of
 entry_cell p l s k h = rw (entry_first p l s k h, lt-ltb k (entries l) h) refl
 
@@ -76,9 +76,9 @@ pattern_unlisted p l s x y on =
     at_entry : lowest (entry_at l x y) (entries l) 0 < entries l → ltb (lowest (entry_at l x y) (entries l) 0) (entries l) ≡ false
     at_entry h =
         let k : ℕ = lowest (entry_at l x y) (entries l) 0 in
-        let place : (entry_column l k ≡ x) × (entry_row_lem l k ≡ y) =
+        let place : (entry_column l k ≡ x) × (entry_row l k ≡ y) =
         stands_at l x y k (lowest_holds (entry_at l x y) (entries l) 0 (omega arith)) in
-        let off : covered (pattern_colour p (entry_column l k) (entry_row_lem l k)) ≡ false = (s.entry k h).on_no_pattern in
+        let off : covered (pattern_colour p (entry_column l k) (entry_row l k)) ≡ false = (s.entry k h).on_no_pattern in
         clash on (rw (place.0, place.1) at off)
 
 pub pattern_cell_lem : (p : Params) (l : List ℕ) → SoundList p l → (x y : ℕ)
@@ -127,12 +127,12 @@ pub entry_kept : (p : Params) (l bs : List ℕ)
     → SoundList p l
     → (k : ℕ)
     → k < entries l
-    → get_or (filled p l bs) ((entry_row_lem l k - 1) * columns p + (entry_column l k - 1)) 0 ≡ entry_colour l k
+    → get_or (filled p l bs) ((entry_row l k - 1) * columns p + (entry_column l k - 1)) 0 ≡ entry_colour l k
 entry_kept p l bs s k h =
     let c : ℕ = entry_column l k - 1 in
-    let r : ℕ = entry_row_lem l k - 1 in
+    let r : ℕ = entry_row l k - 1 in
     let column : c + 1 ≡ entry_column l k = omega (arith, (s.entry k h).column_least) in
-    let row : r + 1 ≡ entry_row_lem l k = omega (arith, (s.entry k h).row_least) in
+    let row : r + 1 ≡ entry_row l k = omega (arith, (s.entry k h).row_least) in
     let cell : cell_at p l c r ≡ Fixed (entry_colour l k) = rw (column, row) (entry_cell p l s k h) in
     let e = s.entry k h in
     fixed_kept p l bs c r (entry_colour l k)

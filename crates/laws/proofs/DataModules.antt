@@ -15,7 +15,7 @@ use Rattle.symbology.specs.declared.ListVerdict.TheVariants.{Sound}
 use Rattle.symbology.specs.Ranges.{tally, sum_from}
 use Rattle.symbology.specs.Sides.{columns, rows}
 use Rattle.symbology.specs.Patterns.{covered, pattern_colour}
-use Rattle.symbology.specs.Reserved.{entries, entry_column, entry_row_lem, entry_colour, entry_at, first_entry, list_verdict}
+use Rattle.symbology.specs.Reserved.{entries, entry_column, entry_row, entry_colour, entry_at, first_entry, list_verdict}
 use Rattle.symbology.specs.Parameters.{in_range}
 use Rattle.symbology.specs.Capacity.{pattern_modules, data_modules}
 use Rattle.symbology.specs.Placement.{pattern_cell, cell_of, is_data, column_data}
@@ -63,12 +63,12 @@ free_same p l n x y e = rw (listed_more l n x y, e) (go (listed l n x y))
     go false = refl
 
 -- the module that the next entry names was free and is so no more
-free_taken : (p : Params) (l : List ℕ) (n x y : ℕ) → x ≡ entry_column l n → y ≡ entry_row_lem l n → SoundEntry p l n
+free_taken : (p : Params) (l : List ℕ) (n x y : ℕ) → x ≡ entry_column l n → y ≡ entry_row l n → SoundEntry p l n
     → tally (free p l n x y) ≡ tally (free p l (suc n) x y) + 1
 free_taken p l n x y a b s =
-    let new : listed l n (entry_column l n) (entry_row_lem l n) ≡ false =
-    le-ltb (first_entry l n (entry_column l n) (entry_row_lem l n)) n s.named_once in
-    rw (a, b, listed_more l n (entry_column l n) (entry_row_lem l n), entry_own l n, s.on_no_pattern, new)
+    let new : listed l n (entry_column l n) (entry_row l n) ≡ false =
+    le-ltb (first_entry l n (entry_column l n) (entry_row l n)) n s.named_once in
+    rw (a, b, listed_more l n (entry_column l n) (entry_row l n), entry_own l n, s.on_no_pattern, new)
 
 -- so each entry takes one module
 free_step : (p : Params) (l : List ℕ) (n : ℕ) → SoundEntry p l n → free_modules p l n ≡ free_modules p l (suc n) + 1
@@ -79,10 +79,10 @@ free_step p l n s =
     here =
         let x : ℕ = entry_column l n - 1 + 1 in
         let column : x ≡ entry_column l n = omega arith in
-        let row : entry_row_lem l n - 1 + 1 ≡ entry_row_lem l n = omega arith in
+        let row : entry_row l n - 1 + 1 ≡ entry_row l n = omega arith in
         sum_point (λ r. tally (free p l n x (r + 1))) (λ r. tally (free p l (suc n) x (r + 1)))
-        1 (entry_row_lem l n - 1) 0 (rows p) (omega arith) (omega arith)
-        (free_taken p l n x (entry_row_lem l n - 1 + 1) column row s)
+        1 (entry_row l n - 1) 0 (rows p) (omega arith) (omega arith)
+        (free_taken p l n x (entry_row l n - 1 + 1) column row s)
         (λ r a b h. free_same p l n x (r + 1) (entry_row_lem l n x (r + 1) (λ e. h (omega arith))))
 
     others : (c : ℕ) → 0 ≤ c → c < 0 + columns p → (c ≡ entry_column l n - 1 → ⊥) → free_in_column p l n c ≡ free_in_column p l (suc n) c

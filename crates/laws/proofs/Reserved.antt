@@ -14,7 +14,7 @@ use Rattle.symbology.specs.declared.ListVerdict.TheVariants.{Sound, Fault}
 use Rattle.symbology.specs.Ranges.{within, lowest}
 use Rattle.symbology.specs.Sides.{columns, rows}
 use Rattle.symbology.specs.Patterns.{covered, pattern_colour}
-use Rattle.symbology.specs.Reserved.{entries, entry_column, entry_row_lem, entry_colour, entry_at}
+use Rattle.symbology.specs.Reserved.{entries, entry_column, entry_row, entry_colour, entry_at}
 use Rattle.symbology.specs.Reserved.{first_entry, bad_entry, bad_at, entry_verdict, list_verdict}
 use Rattle.symbology.proofs.Ranges.{clash, and_left, and_right}
 use Rattle.laws.proofs.Ranges.{and_both, or_left, or_right, lowest_before, lowest_more}
@@ -23,10 +23,10 @@ use Rattle.laws.proofs.Ranges.{and_both, or_left, or_right, lowest_before, lowes
 pub record SoundEntry (p : Params) (l : List ℕ) (k : ℕ) : Type 0 where
   pub column_least : 1 ≤ entry_column l k
   pub column_most : entry_column l k ≤ columns p
-  pub row_least : 1 ≤ entry_row_lem l k
-  pub row_most : entry_row_lem l k ≤ rows p
-  pub on_no_pattern : covered (pattern_colour p (entry_column l k) (entry_row_lem l k)) ≡ false
-  pub named_once : k ≤ first_entry l k (entry_column l k) (entry_row_lem l k)
+  pub row_least : 1 ≤ entry_row l k
+  pub row_most : entry_row l k ≤ rows p
+  pub on_no_pattern : covered (pattern_colour p (entry_column l k) (entry_row l k)) ≡ false
+  pub named_once : k ≤ first_entry l k (entry_column l k) (entry_row l k)
   pub colour_below : entry_colour l k < p.colours
 
 -- whole entries, at most 1,024, each sound
@@ -40,7 +40,7 @@ pub sound_entry : (p : Params) (l : List ℕ) (k : ℕ) → bad_at p l k ≡ fal
 unfolding bad_at bad_entry
 sound_entry p l k e =
     let x : ℕ = entry_column l k in
-    let y : ℕ = entry_row_lem l k in
+    let y : ℕ = entry_row l k in
     let a : Bool = not (within 1 (columns p) x) in
     let b : Bool = not (within 1 (rows p) y) in
     let c : Bool = covered (pattern_colour p x y) in
@@ -112,11 +112,11 @@ pub listed_none : (l : List ℕ) (x y : ℕ) → listed l 0 x y ≡ false
 listed_none l x y = le-ltb (first_entry l 0 x y) 0 (omega arith)
 
 -- entry k stands at its own column and row
-pub entry_own : (l : List ℕ) (k : ℕ) → entry_at l (entry_column l k) (entry_row_lem l k) k ≡ true
+pub entry_own : (l : List ℕ) (k : ℕ) → entry_at l (entry_column l k) (entry_row l k) k ≡ true
 unfolding entry_at
 entry_own l k =
-    and_both (eqb (entry_column l k) (entry_column l k)) (eqb (entry_row_lem l k) (entry_row_lem l k))
-    (eq-eqb (entry_column l k) (entry_column l k) refl) (eq-eqb (entry_row_lem l k) (entry_row_lem l k) refl)
+    and_both (eqb (entry_column l k) (entry_column l k)) (eqb (entry_row l k) (entry_row l k))
+    (eq-eqb (entry_column l k) (entry_column l k) refl) (eq-eqb (entry_row l k) (entry_row l k) refl)
 
 -- and at no other column
 pub entry_column_lem : (l : List ℕ) (k x y : ℕ) → (x ≡ entry_column l k → ⊥) → entry_at l x y k ≡ false
@@ -124,9 +124,9 @@ unfolding entry_at
 entry_column_lem l k x y h = rw (ne_eqb (entry_column l k) x (λ e. h (sym e)))
 
 -- and at no other row
-pub entry_row_lem : (l : List ℕ) (k x y : ℕ) → (y ≡ entry_row_lem l k → ⊥) → entry_at l x y k ≡ false
+pub entry_row_lem : (l : List ℕ) (k x y : ℕ) → (y ≡ entry_row l k → ⊥) → entry_at l x y k ≡ false
 unfolding entry_at
-entry_row_lem l k x y h = go (eqb (entry_column l k) x) (eqb (entry_row_lem l k) y) (ne_eqb (entry_row_lem l k) y (λ e. h (sym e)))
+entry_row_lem l k x y h = go (eqb (entry_column l k) x) (eqb (entry_row l k) y) (ne_eqb (entry_row l k) y (λ e. h (sym e)))
   where
     go : (a b : Bool) → b ≡ false → (a && b) ≡ false
     go true b e = e
@@ -134,10 +134,10 @@ entry_row_lem l k x y h = go (eqb (entry_column l k) x) (eqb (entry_row_lem l k)
 
 -- No two entries of a sound list stand at one place.
 pub entries_differ : (p : Params) (l : List ℕ) → SoundList p l → (i k : ℕ) → i < k → k < entries l
-    → entry_column l i ≡ entry_column l k → entry_row_lem l i ≡ entry_row_lem l k → ⊥
+    → entry_column l i ≡ entry_column l k → entry_row l i ≡ entry_row l k → ⊥
 unfolding first_entry entry_at
 entries_differ p l s i k less inner a b =
     let x : ℕ = entry_column l k in
-    let y : ℕ = entry_row_lem l k in
+    let y : ℕ = entry_row l k in
     let free : entry_at l x y i ≡ false = lowest_before (entry_at l x y) k 0 i (omega arith) (omega (arith, (s.entry k inner).named_once)) in
-    clash (and_both (eqb (entry_column l i) x) (eqb (entry_row_lem l i) y) (eq-eqb (entry_column l i) x a) (eq-eqb (entry_row_lem l i) y b)) free
+    clash (and_both (eqb (entry_column l i) x) (eqb (entry_row l i) y) (eq-eqb (entry_column l i) x a) (eq-eqb (entry_row l i) y b)) free

@@ -14,7 +14,7 @@ use Rattle.symbology.specs.Parameters.{in_range}
 use Rattle.symbology.specs.Reserved.{list_verdict, list_number, list_place}
 use Rattle.symbology.specs.Capacity.{sizes_of, sizes_for}
 use Rattle.calls.specs.declared.Answer.{Answer}
-use Rattle.calls.specs.Answers.{answer, no_sizes, the_sizes_lem}
+use Rattle.calls.specs.Answers.{answer, no_sizes, the_sizes}
 use Rattle.calls.specs.Tests.{first_of, passes, other_matrix, short_work, size_rows, front_rows}
 use Rattle.calls.specs.Sizes.{sizes_answer}
 use Rattle.call_laws.proofs.Tests.{Each, Numbered, first_passed, first_refuses, legal_symbol}
@@ -75,7 +75,7 @@ module _ (p : Params) (l : List ℕ) {v : Verdict} (told : v ≡ verdict_of (siz
     pub sizes_refused : sizes_answer p l ≡ no_sizes a.number a.place
     unfolding sizes_answer
     sizes_refused =
-        first_refuses no_sizes (size_rows p l) (the_sizes_lem (sizes_for p l)) a
+        first_refuses no_sizes (size_rows p l) (the_sizes (sizes_for p l)) a
         (refused_answer (size_rows p l) (sizes_for p l) numbered told e) (refused_numbered (size_rows p l) (sizes_for p l) numbered told e)
 
     -- so it is that of the tests 1 to 5
@@ -95,9 +95,9 @@ module _ (p : Params) (l : List ℕ) {v : Verdict} (told : v ≡ verdict_of (siz
     pub range_passed : in_range p ≡ true
     range_passed = (legal_symbol p l passed).inside_range
 
-    pub sizes_given : sizes_answer p l ≡ the_sizes_lem s
+    pub sizes_given : sizes_answer p l ≡ the_sizes s
     unfolding sizes_answer
-    sizes_given = first_passed no_sizes (size_rows p l) (the_sizes_lem (sizes_for p l)) passed ∙ ap the_sizes_lem (sym sizes_are)
+    sizes_given = first_passed no_sizes (size_rows p l) (the_sizes (sizes_for p l)) passed ∙ ap the_sizes (sym sizes_are)
 
     -- ---- the tests 4 and 5
 

@@ -12,7 +12,7 @@ use Rattle.symbology.specs.declared.ListVerdict.TheVariants.{Sound, Fault}
 use Rattle.symbology.specs.Ranges.{within, lowest}
 use Rattle.symbology.specs.Sides.{columns, rows}
 use Rattle.symbology.specs.Patterns.{pattern_colour, covered}
-use Rattle.symbology.specs.Reserved.{entries, entry_column, entry_row_lem, entry_colour, first_entry, bad_entry, bad_at, entry_verdict, list_verdict}
+use Rattle.symbology.specs.Reserved.{entries, entry_column, entry_row, entry_colour, first_entry, bad_entry, bad_at, entry_verdict, list_verdict}
 use Rattle.laws.proofs.Ranges.{by}
 
 -- ---- a number and its bounds
@@ -58,7 +58,7 @@ module _ (p : Params) (l : List ℕ) (k x y colour : ℕ) where
 -- the same of entry k itself, whose numbers these are
 pub bad_at_lem : (p : Params) (l : List ℕ) (k x y colour : ℕ)
     → x ≡ entry_column l k
-    → y ≡ entry_row_lem l k
+    → y ≡ entry_row l k
     → colour ≡ entry_colour l k
     → bad_entry p l k x y colour ≡ bad_at p l k
 unfolding bad_at

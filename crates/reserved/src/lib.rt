@@ -8,7 +8,7 @@ ghost use Rattle.std.specs.Prelude.{◌+◌, ◌*◌, ◌≤◌, ◌<◌, ◌≡
 ghost use Rattle.symbology.specs.Patterns.{covered};
 ghost use Rattle.symbology.specs.Ranges.{within, lowest};
 ghost use Rattle.symbology.specs.Sides.{columns, rows};
-ghost use Rattle.symbology.specs.Reserved.{entry_column, entry_row_lem, entry_colour, entry_at, first_entry, bad_at, list_verdict};
+ghost use Rattle.symbology.specs.Reserved.{entry_column, entry_row, entry_colour, entry_at, first_entry, bad_at, list_verdict};
 ghost use Rattle.patterns.specs.Cores.{cores_for};
 
 use patterns::SideCores;
@@ -29,7 +29,7 @@ fn column_of(list: &[u16], k: usize) -> usize
 
 fn row_of(list: &[u16], k: usize) -> usize
     requires { 3 * k + 3 ≤ length list.now }
-    ensures { (result ≡ entry_row_lem list.now k) × (result < 65536) }
+    ensures { (result ≡ entry_row list.now k) × (result < 65536) }
 {
     wide(list[3 * k + 1])
 }

@@ -23,7 +23,7 @@ use Rattle.calls.specs.declared.ReadAnswer.{ReadAnswer}
 use Rattle.calls.specs.Answers.{counted, refused, from_stream}
 use Rattle.calls.specs.Tests.{first_of, spare_one, bad_module, front_rows, early_rows, is_legal}
 use Rattle.calls.specs.Read.{message_in_accepted, message_in_net, message_in, places_in, front_after, stream_answer}
-use Rattle.calls.specs.Read.{answer_from_accepted, mended_counts, answer_from_received, received_counts, read_answer_lem}
+use Rattle.calls.specs.Read.{answer_from_accepted, mended_counts, answer_from_received, received_counts, read_answer}
 use Rattle.laws.proofs.Rule.{unmet_few}
 use Rattle.call_laws.proofs.Tests.{first_append, first_hit, first_miss, first_none, first_passed}
 use Rattle.call_laws.proofs.Stages.{accepted_stream, accepted_spare, from_stuck, from_short, from_mended}
@@ -190,7 +190,7 @@ module _ {s : Sizes} {a : Areas} {size : ℕ} {work mended : List ℕ} {repairs 
 module _ (p : Params) (l matrix : List ℕ) (work room : ℕ) (before slice : List ℕ)
     (is-legal : is_legal p l (length matrix) work ≡ true) where
   abbrev defined : ReadAnswer
-  defined = read_answer_lem p l matrix work room (length slice)
+  defined = read_answer p l matrix work room (length slice)
 
   abbrev FromMatrix : ReadAnswer → List ℕ → List ℕ → Type 0
   FromMatrix a after stored = AnsweredWithPlaces defined (message_in p l matrix) (places_in p l matrix) before slice a after stored
@@ -201,7 +201,7 @@ module _ (p : Params) (l matrix : List ℕ) (work room : ℕ) (before slice : Li
 
   -- the tests 1 to 5 are passed
   behind : defined ≡ first_of refused (bad_module p matrix ∷ []) onward
-  unfolding read_answer_lem early_rows is_legal
+  unfolding read_answer early_rows is_legal
   behind =
       first_append refused (front_rows p l (length matrix) work) _ onward
       ∙ first_passed refused (front_rows p l (length matrix) work) _ is-legal

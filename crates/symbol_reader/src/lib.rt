@@ -14,7 +14,7 @@ ghost use Rattle.symbology.specs.Capacity.{sizes_for};
 ghost use Rattle.symbology.specs.Symbol.{received_bits};
 ghost use Rattle.symbology.specs.Code.{matrix_for, checks_for};
 ghost use Rattle.calls.specs.Tests.{is_legal};
-ghost use Rattle.calls.specs.Read.{answer_from_accepted, answer_from_received, read_answer_lem, message_in_accepted, message_in, places_in};
+ghost use Rattle.calls.specs.Read.{answer_from_accepted, answer_from_received, read_answer, message_in_accepted, message_in, places_in};
 ghost use Rattle.calls.specs.Promises.{Reads};
 ghost use Rattle.layout.specs.Walk.{SizedSymbol};
 ghost use Rattle.lent.specs.Changes.{Changed};
@@ -135,7 +135,7 @@ fn read_uncleared(
     s: Sizes,
 ) -> ReadAnswer
     requires { (is_legal p list.now (length matrix.now) (length work.old) ≡ true) × (s ≡ sizes_for p list.now) }
-    ensures { AnsweredWithPlaces (read_answer_lem p list.now matrix.now (length work.old) room (length places.old)) (message_in p list.now matrix.now) (places_in p list.now matrix.now) message.old places.old result message.new places.new }
+    ensures { AnsweredWithPlaces (read_answer p list.now matrix.now (length work.old) room (length places.old)) (message_in p list.now matrix.now) (places_in p list.now matrix.now) message.old places.old result message.new places.new }
 {
     let bad = layout::first_bad_module(p.colours, matrix);
     if bad < matrix.len() {

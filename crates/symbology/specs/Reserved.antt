@@ -18,8 +18,8 @@ abbrev pub entry_column : List ℕ → ℕ → ℕ
 entry_column l k = get_or l (3 * k) 0
 
 -- its row
-abbrev pub entry_row_lem : List ℕ → ℕ → ℕ
-entry_row_lem l k = get_or l (3 * k + 1) 0
+abbrev pub entry_row : List ℕ → ℕ → ℕ
+entry_row l k = get_or l (3 * k + 1) 0
 
 -- its colour index
 abbrev pub entry_colour : List ℕ → ℕ → ℕ
@@ -27,7 +27,7 @@ entry_colour l k = get_or l (3 * k + 2) 0
 
 -- entry k stands at column x, row y
 unfoldable pub entry_at : List ℕ → ℕ → ℕ → ℕ → Bool
-entry_at l x y k = eqb (entry_column l k) x && eqb (entry_row_lem l k) y
+entry_at l x y k = eqb (entry_column l k) x && eqb (entry_row l k) y
 
 -- the first of the n first entries that stands at column x, row y, and n where none does
 unfoldable pub first_entry : List ℕ → ℕ → ℕ → ℕ → ℕ
@@ -44,7 +44,7 @@ bad_entry p l k x y colour =
 
 -- the same of entry k itself
 unfoldable pub bad_at : Params → List ℕ → ℕ → Bool
-bad_at p l k = bad_entry p l k (entry_column l k) (entry_row_lem l k) (entry_colour l k)
+bad_at p l k = bad_entry p l k (entry_column l k) (entry_row l k) (entry_colour l k)
 
 -- the verdict on n entries, where `place` is that of the first bad one, or n where none is bad
 unfoldable pub entry_verdict : ℕ → ℕ → ListVerdict

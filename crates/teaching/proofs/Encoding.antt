@@ -15,7 +15,7 @@ use Rattle.symbology.specs.Code.{matrix_for, codeword_for}
 use Rattle.laws.proofs.Sizes.{LegalSymbol}
 use Rattle.laws.proofs.Teaching.{codeword_of_sum}
 use Rattle.calls.specs.declared.SizesAnswer.{SizesAnswer}
-use Rattle.calls.specs.Answers.{no_sizes, the_sizes_lem}
+use Rattle.calls.specs.Answers.{no_sizes, the_sizes}
 use Rattle.calls.specs.Sizes.{sizes_answer}
 use Rattle.calls.specs.Tests.{size_rows}
 use Rattle.call_laws.proofs.Tests.{Each, first_zero, legal_symbol}
@@ -32,7 +32,7 @@ module _ (p : Params) (l : List ℕ) (passed : (sizes_answer p l).number ≡ 0) 
   legal =
       let number : SizesAnswer → ℕ = λ a. a.number in
       legal_symbol p l
-      (first_zero no_sizes number (size_rows p l) (the_sizes_lem (sizes_for p l)) (λ z. omega arith, (λ z. omega arith, (λ z. omega arith, tt)))
+      (first_zero no_sizes number (size_rows p l) (the_sizes (sizes_for p l)) (λ z. omega arith, (λ z. omega arith, (λ z. omega arith, tt)))
       passed).0
 
   pub range_passed : in_range p ≡ true

@@ -7,14 +7,14 @@ use native.Mathlib.Omega.{arith}
 use lib.ListN.{length-take}
 use Rattle.symbology.specs.declared.Params.{Params}
 use Rattle.calls.specs.declared.ReadAnswer.{ReadAnswer}
-use Rattle.calls.specs.Read.{read_answer_lem}
+use Rattle.calls.specs.Read.{read_answer}
 use Rattle.call_laws.proofs.Answers.{read_fits}
 use Rattle.call_laws.proofs.Places.{read_places}
 use borrow.Author.Rules.{rules}
 use Rattle.conformance.proofs.read.Statement.{statement}
 use Rattle.conformance.proofs.read.Tie as tie
 
-module _ {r : ReadAnswer} (p : Params) (l matrix : List ℕ) (work room slots : ℕ) (e : r ≡ read_answer_lem p l matrix work room slots) where
+module _ {r : ReadAnswer} (p : Params) (l matrix : List ℕ) (work room slots : ℕ) (e : r ≡ read_answer p l matrix work room slots) where
   -- a message that is read fits in its buffer
   fits : r.length ≤ room
   fits = omega (arith, ap (λ (a : ReadAnswer). a.length) e, read_fits p l matrix work room slots)
