@@ -1,6 +1,8 @@
 // Balances: each bit has a number in the work buffer, the number of checks plus the unmet and minus the met
 // ones that it stands in, by their marks. They are made from the marks once, and kept up to date where marks
 // are turned.
+#![tactic(auto)]
+
 ghost use Rattle.std.specs.Prelude.{◌<◌, length};
 ghost use Rattle.lent.specs.Work.{Laid};
 ghost use Rattle.syndrome.specs.Syndrome.{MarkBits};

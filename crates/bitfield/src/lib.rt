@@ -1,4 +1,6 @@
 // Numbers in fields of bits, one bit to a byte, the first bit the highest.
+#![tactic(auto)]
+
 ghost use Rattle.std.specs.Prelude.{◌+◌, ◌≤◌, ◌≡◌, length, take, drop};
 ghost use Rattle.std.proofs.lemmas.List.Edits.{sets};
 ghost use Rattle.symbology.specs.Bits.{value, bits};

@@ -1,5 +1,7 @@
 // The answers of the calls and, in specs/, the definitions that the calls are held to: the tables of tests,
 // the whole write, the whole read, and what a call promises. Every answer is made by a function here.
+#![tactic(auto)]
+
 ghost use Rattle.std.specs.Prelude.{◌≡◌};
 ghost use Rattle.calls.specs.Answers.{answer, no_sizes, the_sizes, stream_refused, stream_done, counted, refused, from_stream};
 
@@ -8,7 +10,7 @@ use symbology::Sizes;
 // ---- the types
 
 // The answer of a write, and of the tests 1 to 5: document 01's number and place.
-#[derive(Drop)]
+#[derive(Clone, Copy)]
 pub struct Answer {
     pub number: u32,
     pub place: usize,
@@ -16,7 +18,7 @@ pub struct Answer {
 
 // The answer of `sizes`: document 01's number and place, and what a caller needs to know of a symbol
 // before it is written or read: columns, rows, C, Pn, the bytes of the work buffer, Pg and K.
-#[derive(Drop)]
+#[derive(Clone, Copy)]
 pub struct SizesAnswer {
     pub number: u32,
     pub place: usize,
@@ -30,7 +32,7 @@ pub struct SizesAnswer {
 }
 
 // What net bits gave: document 01's number, 0 or 11 to 14, and the message's length.
-#[derive(Drop)]
+#[derive(Clone, Copy)]
 pub struct StreamAnswer {
     pub number: u32,
     pub length: usize,
@@ -38,7 +40,7 @@ pub struct StreamAnswer {
 
 // The counts that a read hands from stage to stage: the repairs, the number of checks unmet in the
 // received word, and the number of wrong stuffing bits.
-#[derive(Drop)]
+#[derive(Clone, Copy)]
 pub struct Counts {
     pub repairs: usize,
     pub unmet: usize,
@@ -46,7 +48,7 @@ pub struct Counts {
 }
 
 // The answer of a read: the number and place of documents 01 and 02, the message's length, and the counts.
-#[derive(Drop)]
+#[derive(Clone, Copy)]
 pub struct ReadAnswer {
     pub number: u32,
     pub place: usize,

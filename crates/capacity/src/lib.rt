@@ -3,6 +3,8 @@
 //
 // `in_range` and `bits_per_module` answer every input; the others serve the crates above and ask for what
 // `in_range` has shown, `as_bits` for counts in the bounds that follow from it.
+#![tactic(auto)]
+
 ghost use Rattle.std.specs.Prelude.{◌-◌, ◌≤◌, ◌≡◌, true, cond, ◌||◌, eqb};
 ghost use Rattle.symbology.specs.Ranges.{within, all_hold};
 ghost use Rattle.symbology.specs.Parameters.{in_range};

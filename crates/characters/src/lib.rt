@@ -1,4 +1,6 @@
 // The characters of 002, Table 12: which bytes a code gives. The stream reader calls `bytes_of`.
+#![tactic(auto)]
+
 ghost use Rattle.std.specs.Prelude.{◌≤◌, ◌<◌, ◌≡◌, [], ◌∷◌, take, drop};
 ghost use Rattle.symbology.specs.Characters.{punctuation_characters, mixed_characters, character_bytes};
 ghost use Rattle.symbology.specs.Modes.{characters_of, bytes_of};
@@ -7,7 +9,7 @@ ghost use Rattle.characters.specs.Bytes.{code_bytes};
 use symbology::{Expected, Mode};
 
 // The bytes that a code gives: the first `count` of three.
-#[derive(Drop)]
+#[derive(Clone, Copy)]
 pub struct CodeBytes {
     pub count: usize,
     pub first: u8,

@@ -1,5 +1,7 @@
 // The check matrix A of 002, 4.4.3, built as dense rows in the work buffer: wc blocks of t rows. Each
 // block shuffles the column order of the block before, which the area of numbers keeps.
+#![tactic(auto)]
+
 ghost use Rattle.std.specs.Prelude.{◌*◌, ◌<◌, ◌≡◌, length};
 ghost use Rattle.lent.specs.Work.{Laid};
 ghost use Rattle.check_matrix.specs.Build.{BlockFits, BlockTurned, Built};

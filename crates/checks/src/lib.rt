@@ -1,5 +1,7 @@
 // The checks in the work buffer: which bits stand in which check. Judging a word and mending it see the check
 // matrix through this crate alone; behind it lie the dense rows.
+#![tactic(auto)]
+
 ghost use Rattle.std.specs.Prelude.{◌-◌, ◌≤◌, ◌<◌, ◌≡◌, length};
 ghost use Rattle.symbology.specs.Ranges.{lowest};
 ghost use Rattle.lent.specs.Work.{Laid};

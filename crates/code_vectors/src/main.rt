@@ -4,6 +4,8 @@
 // the first six places of 1,047 numbers.
 //
 // The work buffer has 53,964 bytes, document 01's limit for programs.
+#![tactic(auto)]
+
 ghost use Rattle.std.specs.Prelude.{◌*◌, ◌≤◌, ◌<◌, ◌≡◌, length};
 ghost use Rattle.lent.specs.Work.{Laid, CodeSizes};
 

@@ -1,5 +1,7 @@
 // Codewords in the work buffer, where its rows are eliminated: the net bits stored in the message columns
 // and the check columns solved, and the message columns of a word read back.
+#![tactic(auto)]
+
 ghost use Rattle.std.specs.Prelude.{length};
 ghost use Rattle.symbology.specs.Bits.{AllBits};
 ghost use Rattle.lent.specs.Work.{Laid, net_in};

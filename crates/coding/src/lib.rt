@@ -1,5 +1,7 @@
 // The stages of error correction over any areas and any check matrix: the codeword of net bits, and the
 // message bits of a word. The checks are in the work buffer; mending, the stage between, is `mending::mend`.
+#![tactic(auto)]
+
 ghost use Rattle.std.specs.Prelude.{length};
 ghost use Rattle.symbology.specs.Bits.{AllBits};
 ghost use Rattle.lent.specs.Work.{Laid, net_in};

@@ -21,6 +21,8 @@
 // first numbers of the slice, on 0 as many as REPAIRS and on a refusal none, and SLICE says the same of all
 // numbers behind them, some that lie behind the slice among them. A line that has another form, a number above
 // its limit, or another wc or wr prints `bad case`. Of the input the first 655,360 bytes are read.
+#![tactic(auto)]
+
 ghost use Rattle.std.specs.Prelude.{◌≤◌, ◌≡◌, true, false, length, replicate};
 
 use calls::ReadAnswer;
@@ -32,7 +34,7 @@ use symbology::Params;
 // A number, and where in its line the next one starts. Behind the last number of a line of n bytes that
 // is n + 1. Where there is no number it is n + 2, and there is none at n + 2 either: one test behind the
 // last number tells whether all were there.
-#[derive(Drop)]
+#[derive(Clone, Copy)]
 struct Token {
     value: u32,
     next: usize,
@@ -115,7 +117,7 @@ fn word(line: &[u8], at: usize) -> Token {
 }
 
 // The parameters, the length of the list, and where in their line the next number starts.
-#[derive(Drop)]
+#[derive(Clone, Copy)]
 struct Front {
     p: Params,
     entries: usize,
@@ -158,7 +160,7 @@ fn take_front(line: &[u8], at: usize) -> Front
 }
 
 // Three lengths, and where in their line the next number starts.
-#[derive(Drop)]
+#[derive(Clone, Copy)]
 struct Lengths {
     first: usize,
     second: usize,
@@ -344,7 +346,7 @@ fn run_write(p: Params, list: &[u16], message: &[u8], matrix: &mut [u8], work: &
 }
 
 // What a read answered, and how many places it stored.
-#[derive(Drop)]
+#[derive(Clone, Copy)]
 struct Reading {
     answer: ReadAnswer,
     stored: usize,

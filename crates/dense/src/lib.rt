@@ -1,5 +1,7 @@
 // The dense rows of a check matrix in lent bytes: its bits, its rows added, a word stored as a row, its
 // checks judged. The rows lie in front of the buffer, `stride` bytes each, eight columns to a byte, the first column lowest.
+#![tactic(auto)]
+
 ghost use Rattle.std.specs.Prelude.{◌+◌, ◌*◌, ◌/◌, ◌≤◌, ◌<◌, ◌≡◌, length};
 ghost use Rattle.symbology.specs.Ranges.{tally};
 ghost use Rattle.laws.specs.Gf2.{parity, dot};

@@ -1,4 +1,6 @@
 // The random number generator of 002, Annex E, forwards and backwards, and the place of a draw.
+#![tactic(auto)]
+
 ghost use Rattle.std.specs.Prelude.{◌≡◌, ◌*◌, ◌%◌, ◌^◌, ◌<◌, ◌≤◌};
 ghost use Rattle.symbology.specs.Generator.{next_state, temper, draw, state_after};
 ghost use Rattle.symbology.specs.Place.{nearest_single, place_of};

@@ -4,6 +4,8 @@
 //
 // A row that has no mark is 0 behind the column that is eliminated, so that the bytes up to that column are all
 // that is added.
+#![tactic(auto)]
+
 ghost use Rattle.std.specs.Prelude.{◌≤◌, ◌<◌, ◌≡◌, length};
 ghost use Rattle.symbology.specs.Ranges.{lowest};
 ghost use Rattle.lent.specs.Work.{Laid};

@@ -5,6 +5,8 @@
 //
 // `write` and `read` make the tests 1 to 5 and hand legal input on to the crates of their stages, with the
 // sizes of the symbol.
+#![tactic(auto)]
+
 ghost use Rattle.std.specs.Prelude.{◌≡◌};
 ghost use Rattle.symbology.specs.Stream.{stream_of};
 ghost use Rattle.calls.specs.Sizes.{sizes_answer};

@@ -1,6 +1,8 @@
 // The calls of `jabcode` for C: include/jabcode.h declares them. A slice is a pointer and a length there,
 // in this order. The parameters are a struct of `uint32_t` members there and an answer one of `uint64_t`
 // members, so that they lie in memory as the arrays here do, and every number is given as it is.
+#![tactic(auto)]
+
 ghost use Rattle.std.specs.Prelude.{◌≡◌};
 ghost use Rattle.calls.specs.Sizes.{sizes_answer};
 ghost use Rattle.jabcode_c.specs.Words.{params_of, sizes_words};

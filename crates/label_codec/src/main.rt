@@ -15,6 +15,8 @@
 // Document 01: programs keep to symbols of C at most 1,047 with wc 3, wr 9: at most 53,964 work bytes. Another
 // wc or wr is refused with the line `100` and twelve zeros; 100 is no number of document 01. The work buffer
 // has 53,964 bytes, with which no greater C passes test 5.
+#![tactic(auto)]
+
 ghost use Rattle.std.specs.Prelude.{◌+◌, ◌≤◌, ◌<◌, ◌≡◌, cond, eqb, length};
 
 use calls::ReadAnswer;

@@ -5,6 +5,8 @@
 //
 // The PNG (ISO/IEC 15948) has indexed colours, the eight of Table 3 in their order, and one stored block of
 // zlib for each row of pixels, each in a chunk of its own.
+#![tactic(auto)]
+
 ghost use Rattle.std.specs.Prelude.{◌+◌, ◌*◌, ◌≤◌, ◌≡◌, length};
 
 use libc::{STDIN_FILENO, STDOUT_FILENO};

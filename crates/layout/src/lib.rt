@@ -7,6 +7,8 @@
 // reserved list: with the 24 entries of a small symbol that is some ten thousand comparisons, and
 // where test 3 is passed never more than 3.3 million, since no such symbol has more than 3,185
 // modules and no list more than 1,024 entries.
+#![tactic(auto)]
+
 ghost use Rattle.std.specs.Prelude.{◌+◌, ◌*◌, ◌≤◌, ◌<◌, ◌≡◌, true, length, get_or, take, drop, set};
 ghost use Rattle.std.proofs.lemmas.List.Edits.{sets};
 ghost use Rattle.symbology.specs.declared.ListVerdict.TheVariants.{Sound};

@@ -1,6 +1,8 @@
 // The code of a symbol: the check matrix A for its sizes, and the stages of error correction that begin with
 // it, the codeword of net bits and the mending of a received word. All of it lies in the work buffer. The
 // message bits of a mended word are read by `coding::take_message`.
+#![tactic(auto)]
+
 ghost use Rattle.std.specs.Prelude.{length};
 ghost use Rattle.symbology.specs.Bits.{AllBits};
 ghost use Rattle.symbology.specs.Code.{matrix_for};

@@ -1,6 +1,8 @@
 // The tests 1 to 5 of document 01, which every call makes first, and `sizes`. They answer every input. Only
 // test 2, which the crate `reserved` makes, costs more for a longer list. Where the tests are passed, they
 // hand on the sizes of the symbol, so that a write or a read works these out once.
+#![tactic(auto)]
+
 ghost use Rattle.std.specs.Prelude.{◌≡◌};
 ghost use Rattle.symbology.specs.Capacity.{sizes_for};
 ghost use Rattle.calls.specs.Tests.{size_rows, front_rows};
@@ -11,7 +13,7 @@ use calls::{Answer, SizesAnswer};
 use symbology::{ListVerdict, Params, Sizes};
 
 // What tests say of a symbol: they are passed, and it has these sizes; or a refusal.
-#[derive(Drop)]
+#[derive(Clone, Copy)]
 pub enum Verdict {
     Legal(Sizes),
     Refused(Answer),

@@ -3,6 +3,8 @@
 // Two parts of one buffer cannot be lent at once where one of them is stored to. So the functions of
 // error correction take the whole work buffer and the places of their areas, and each says in which areas
 // it changes the buffer at most.
+#![tactic(auto)]
+
 ghost use Rattle.std.specs.Prelude.{◌+◌, ◌*◌, ◌≤◌, ◌<◌, ◌≡◌, length};
 ghost use Rattle.std.proofs.lemmas.List.Edits.{sets};
 ghost use Rattle.lent.specs.Buffer.{number_at, numbers_at, stored_number, Cleared, CountedUp};
@@ -15,7 +17,7 @@ use symbology::Sizes;
 // each, from `marks` on; then the word, `gross` bits of a byte each, from `word` on; then `gross`
 // numbers of two bytes each, from `numbers` on; `net` message bits of a byte each, from `message` on; and
 // the places of the repairs, at most `checks` numbers of two bytes each, from `repaired` on.
-#[derive(Drop)]
+#[derive(Clone, Copy)]
 pub struct Areas {
     pub checks: usize,
     pub gross: usize,

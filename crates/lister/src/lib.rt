@@ -2,6 +2,8 @@
 //
 // `list_side` is the whole of it for an input in memory. A program whose input may be of any length
 // calls `scan` for each piece of it, and at the end `side_text` with what `number_of` gives.
+#![tactic(auto)]
+
 ghost use Rattle.std.specs.Prelude.{◌+◌, ◌≤◌, ◌<◌, ◌≡◌, length, drop};
 ghost use Rattle.std.proofs.lemmas.List.Edits.{sets};
 ghost use Rattle.symbology.specs.Sides.{cores_of};
@@ -15,7 +17,7 @@ ghost use Rattle.lister.specs.Listing.{number_line, cores_after, cores_line, sid
 
 // What the bytes read so far are: none; digits, which write this number or, where it is above 32,
 // some number above 32; such digits and a newline; or no number, whatever follows.
-#[derive(Drop)]
+#[derive(Clone, Copy)]
 pub enum Numeral {
     Start,
     Digits(usize),

@@ -2,6 +2,8 @@
 // lowest-numbered bit that stands in more unmet than met checks is turned. Marks and balances (`syndrome`,
 // `balances`) are kept up to date from step to step, and each step answers the bit that it turned: its place
 // goes to the area of the places in the work buffer.
+#![tactic(auto)]
+
 ghost use Rattle.std.specs.Prelude.{◌<◌, ◌≡◌, length};
 ghost use Rattle.symbology.specs.Rule.{suspect};
 ghost use Rattle.lent.specs.Work.{Laid, word_in};
@@ -14,7 +16,7 @@ use lent::Areas;
 
 // What mending answers: the number of repairs, that of the checks unmet at the start, and whether the
 // word is stuck.
-#[derive(Drop)]
+#[derive(Clone, Copy)]
 pub struct Mended {
     pub repairs: usize,
     pub unmet: usize,
@@ -22,7 +24,7 @@ pub struct Mended {
 }
 
 // What a step of the rule answers: the bit that it turned, or that the rule has ended.
-#[derive(Drop)]
+#[derive(Clone, Copy)]
 enum Step {
     Turned(usize),
     End,

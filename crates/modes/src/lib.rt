@@ -1,5 +1,7 @@
 // The modes of 002, 4.3, and Tables 13 to 16: how wide a code is, what it does to the mode, and document
 // 01's number where reading ends. These functions serve the stream reader.
+#![tactic(auto)]
+
 ghost use Rattle.std.specs.Prelude.{ℕ, ◌≡◌};
 ghost use Rattle.symbology.specs.Modes.{mode_width, code_width, switch_of, mode_number, end_number};
 ghost use Rattle.symbology.specs.declared.Mode.TheVariants.{Upper, Lower, Numeric, Alphanumeric};

@@ -1,6 +1,8 @@
 // The finder and alignment patterns: which colour they give a module. `pattern_colour` is the way
 // in, with the rows of Table 2 from `side_cores`; the others follow its definition, one function for
 // each. For a module at most 18 core coordinates are looked at, nine a side.
+#![tactic(auto)]
+
 ghost use Rattle.std.specs.Prelude.{◌+◌, ◌%◌, ◌≤◌, ◌<◌, max, ◌≡◌, cond, not, ◌&&◌, ◌||◌, leb, eqb, length, take};
 ghost use Rattle.symbology.specs.Patterns.{near_core, finder, corner_alignment, inner_alignment, pattern_of, off_core, in_squares, colour_in, pattern_colour};
 ghost use Rattle.patterns.specs.Cores.{cores_for};
@@ -9,7 +11,7 @@ use symbology::{Near, Params, Pattern, PatternColour};
 use tables::CoreRow;
 
 // The rows of Table 2 for the two sides of a symbol. A caller that asks for many modules keeps them.
-#[derive(Drop)]
+#[derive(Clone, Copy)]
 pub struct SideCores {
     pub across: CoreRow,
     pub down: CoreRow,

@@ -4,6 +4,8 @@
 // `judge_list` is test 2. For each entry it looks through those before it: n entries cost n × n / 2
 // comparisons, half a million for the 1,024 that are allowed. `first_entry` looks through n of them
 // once. `judge_list` answers every input; the others ask for entries that the list has.
+#![tactic(auto)]
+
 ghost use Rattle.std.specs.Prelude.{◌+◌, ◌*◌, ◌≤◌, ◌<◌, ◌≡◌, not, ◌||◌, length};
 ghost use Rattle.symbology.specs.Patterns.{covered};
 ghost use Rattle.symbology.specs.Ranges.{within, lowest};

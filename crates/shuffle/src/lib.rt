@@ -3,6 +3,8 @@
 //
 // Backwards the exchanges are made in the reverse order. The generator is run to its last state once
 // and then back state by state, so that no list of places is kept.
+#![tactic(auto)]
+
 ghost use Rattle.std.specs.Prelude.{◌+◌, ◌*◌, ◌≤◌, ◌<◌, ◌≡◌, length};
 ghost use Rattle.symbology.specs.Generator.{state_after};
 ghost use Rattle.symbology.specs.Shuffle.{exchanged, shuffled, unshuffled};

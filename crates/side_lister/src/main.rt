@@ -1,4 +1,6 @@
 // Reads a decimal number from standard input and prints the side of that side-version, or refuses.
+#![tactic(auto)]
+
 use libc::{STDIN_FILENO, STDOUT_FILENO};
 use lister::Numeral;
 

@@ -2,6 +2,8 @@
 //
 // `read_net` serves the read of a symbol. One loop, that of `read_stream`, counts the bytes of a stream
 // where it is lent an empty buffer, and stores them where it is lent the caller's.
+#![tactic(auto)]
+
 ghost use Rattle.std.specs.Prelude.{◌<◌, ◌^◌, ◌≡◌};
 ghost use Rattle.symbology.specs.Stream.{decode};
 ghost use Rattle.symbology.specs.Net.{up_to_last_one};
@@ -16,7 +18,7 @@ use symbology::{Expected, Mode, ModeAnswer};
 // ---- streams
 
 // What a stream gave: document 01's number, 0, 12 or 13, and how many bytes until there.
-#[derive(Drop)]
+#[derive(Clone, Copy)]
 pub struct StreamCount {
     pub number: u32,
     pub count: usize,

@@ -6,6 +6,8 @@
 // bytes. A write prints the length of the stream, then the number of test 6, once where there are just
 // as many net bits and once where there is one more, and the net bits with three zeros behind the end
 // mark. No symbol is made, and no work buffer lent.
+#![tactic(auto)]
+
 ghost use Rattle.std.specs.Prelude.{◌+◌, ◌≤◌, ◌<◌, ◌≡◌, length};
 ghost use Rattle.symbology.specs.Stream.{stream_of};
 

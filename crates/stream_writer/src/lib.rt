@@ -3,6 +3,8 @@
 //
 // `write_net` and `exceeds_net` serve the write of a symbol. The length of a stream is worked out from
 // that of the message, so that room is denied before anything is stored.
+#![tactic(auto)]
+
 ghost use Rattle.std.specs.Prelude.{◌+◌, ◌*◌, ◌≤◌, ◌<◌, ◌^◌, ◌≡◌, length};
 ghost use Rattle.symbology.specs.Stream.{longest_run, byte_bits, run_count, byte_run, byte_stream, stream_of};
 ghost use Rattle.symbology.specs.Net.{with_end_mark, exceeds};

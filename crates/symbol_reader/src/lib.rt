@@ -6,6 +6,8 @@
 // as one value, in which each stage sets its own; `room` is the length that a message may have, whatever the
 // buffer that it is stored to. The places of the repairs stay in the work buffer until the answer is known,
 // and are stored on 0 alone.
+#![tactic(auto)]
+
 ghost use Rattle.std.specs.Prelude.{◌≤◌, ◌≡◌, true, [], ◌∷◌, length};
 ghost use Rattle.symbology.specs.Bits.{AllBits, differing};
 ghost use Rattle.symbology.specs.Rule.{repairs_of, places_of, last_word};

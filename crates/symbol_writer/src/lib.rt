@@ -2,6 +2,8 @@
 // stuffing bits and the interleaving lie in the work buffer one after the other; the matrix is stored last.
 //
 // `jabcode::write` is the way in, and makes the tests before.
+#![tactic(auto)]
+
 ghost use Rattle.std.specs.Prelude.{◌<◌, ◌≡◌, true, length};
 ghost use Rattle.symbology.specs.Bits.{AllBits};
 ghost use Rattle.symbology.specs.Stream.{stream_of};

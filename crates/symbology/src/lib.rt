@@ -1,10 +1,11 @@
 // The types of a symbol, and in specs/ every definition that a symbol is held to: layout, code, streams.
 // The definitions of the calls stand in `calls`, and what lower functions keep or ask for in the specs/ of
 // their crates. This crate has no functions: it is what a reader must believe.
+#![tactic(auto)]
 
 // What a caller chooses for one symbol, in document 01's order. Any number may stand in any field:
 // the calls refuse what is outside document 01's ranges.
-#[derive(Drop)]
+#[derive(Clone, Copy)]
 pub struct Params {
     pub kind: u32,
     pub horizontal: u32,
@@ -21,16 +22,16 @@ pub struct Params {
 
 // A count of modules and a count of bits. They are never added: the one way from the first to the
 // second is the bits per module.
-#[derive(Drop)]
+#[derive(Clone, Copy)]
 pub struct Modules(pub u32);
 
-#[derive(Drop)]
+#[derive(Clone, Copy)]
 pub struct Bits(pub u32);
 
 // What follows from the parameters and the number of list entries. `depth` is the bits per module,
 // `block` the rows of A in one block (document 01's t), `gross`, `checks` and `net` are Pg, K and
 // Pn, and `work` is the number of bytes that test 5 asks for.
-#[derive(Drop)]
+#[derive(Clone, Copy)]
 pub struct Sizes {
     pub columns: usize,
     pub rows: usize,
@@ -46,14 +47,14 @@ pub struct Sizes {
 
 // How a coordinate stands to the core coordinates of its side: more than two modules from each, or
 // near core number i (from 0) at offset o, where 2 is on the core and 0 to 4 are all there is.
-#[derive(Drop)]
+#[derive(Clone, Copy)]
 pub enum Near {
     Apart,
     Core(usize, usize),
 }
 
 // The colour that a pattern gives a module, or none.
-#[derive(Drop)]
+#[derive(Clone, Copy)]
 pub enum PatternColour {
     Outside,
     Black,
@@ -64,7 +65,7 @@ pub enum PatternColour {
 // A finder or alignment pattern: how far it reaches from its core, whether its squares lie upper
 // left and lower right of the core, its core's colour, which a finder pattern has again at distance
 // 2, and that of the ring at distance 1.
-#[derive(Drop)]
+#[derive(Clone, Copy)]
 pub struct Pattern {
     pub reach: usize,
     pub falling: bool,
@@ -73,21 +74,21 @@ pub struct Pattern {
 }
 
 // What a module holds: data, or a colour index that pattern or list fix.
-#[derive(Drop)]
+#[derive(Clone, Copy)]
 pub enum Cell {
     Data,
     Fixed(u8),
 }
 
 // The reserved list's verdict: sound, or the place of its first fault.
-#[derive(Drop)]
+#[derive(Clone, Copy)]
 pub enum ListVerdict {
     Sound,
     Fault(usize),
 }
 
 // The modes of 002, 4.3, that a reader stays in until the next latch.
-#[derive(Drop)]
+#[derive(Clone, Copy)]
 pub enum Mode {
     Upper,
     Lower,
@@ -98,7 +99,7 @@ pub enum Mode {
 // What the next code of a stream is: one of the latched mode, the one character after a shift to
 // punctuation, mixed or uppercase mode, the two bits that extend a mode switch, the short or the
 // long count of a byte run, or a byte with so many more behind it.
-#[derive(Drop)]
+#[derive(Clone, Copy)]
 pub enum Expected {
     Latched,
     Punctuation,
@@ -111,7 +112,7 @@ pub enum Expected {
 }
 
 // What a code does to the mode: the next mode and code, or the end of the stream's reading.
-#[derive(Drop)]
+#[derive(Clone, Copy)]
 pub enum ModeAnswer {
     Next(Mode, Expected),
     EndOfMessage,

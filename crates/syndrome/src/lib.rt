@@ -1,5 +1,7 @@
 // A word judged: which of its checks are unmet, and how many. Each check has a mark in the work buffer, 1
 // where it is unmet and 0 where it is met. The marks are the syndrome of the word.
+#![tactic(auto)]
+
 ghost use Rattle.std.specs.Prelude.{◌≡◌, length};
 ghost use Rattle.symbology.specs.Rule.{unmet_count};
 ghost use Rattle.lent.specs.Work.{Laid, word_in};

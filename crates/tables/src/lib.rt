@@ -4,6 +4,8 @@
 //
 // `core_row` and `side_size` answer for every number; the others serve the crates above this one and
 // ask for what those have tested.
+#![tactic(auto)]
+
 ghost use Rattle.std.specs.Prelude.{◌-◌, ◌≤◌, ◌<◌, ◌≡◌};
 ghost use Rattle.symbology.specs.Sides.{side_size, cores_of, inner_patterns};
 ghost use Rattle.tables.specs.Rows.{core_row, published_counts, formula_counts};
@@ -11,7 +13,7 @@ ghost use Rattle.tables.specs.Rows.{core_row, published_counts, formula_counts};
 use symbology::{Bits, Modules};
 
 // A row of Table 2: the core coordinates of one side-version, `len` of them, then zeros.
-#[derive(Drop)]
+#[derive(Clone, Copy)]
 pub struct CoreRow {
     pub len: u8,
     pub at: [u8; 9],
@@ -230,7 +232,7 @@ const TABLE_1: [[u32; 8]; 32] = [
 ];
 
 // Data modules and capacity of one symbol.
-#[derive(Drop)]
+#[derive(Clone, Copy)]
 pub struct SquareCounts {
     pub modules: Modules,
     pub bits: Bits,

@@ -1,6 +1,8 @@
 // Laws for teaching (document 02, W-207), said of the functions that the library is made of. Each function
 // here calls the one that its law is about, and its contract is the law. Its proof knows of the functions
 // called what every caller knows, which is their contracts.
+#![tactic(auto)]
+
 ghost use Rattle.std.specs.Prelude.{◌*◌, ◌≤◌, ◌≡◌, true, length};
 ghost use Rattle.symbology.specs.declared.ListVerdict.TheVariants.{Sound};
 ghost use Rattle.symbology.specs.Bits.{AllBits, bitwise_sum};

@@ -1,0 +1,24 @@
+-- `lent::number_at` meets its contract: a byte is below 256. Assumes nothing.
+use Prim.Native.Nat.{◌+◌}
+use mathlib.Core.Path.{refl}
+use native.Mathlib.Omega.{arith}
+use Rattle.lent.proofs.number_at.Goals as goal
+
+pub overflow_cast-result : goal.overflow_cast-result
+overflow_cast-result c = omega (arith, c.shared_slice_known-1.given c.args.at)
+
+pub overflow_cast-result-2 : goal.overflow_cast-result-2
+overflow_cast-result-2 c = omega (arith, c.shared_slice_known-1.given (c.args.at + 1))
+
+pub overflow_mul-result : goal.overflow_mul-result
+overflow_mul-result c = omega (arith, c.shared_slice_known-1.given (c.args.at + 1))
+
+pub overflow_add-result-2 : goal.overflow_add-result-2
+overflow_add-result-2 c =
+    let args = c.args in
+    omega (arith, c.shared_slice_known-1.given args.at, c.shared_slice_known-1.given (args.at + 1))
+
+pub returns : goal.returns
+returns c =
+    let args = c.args in
+    (refl, omega (arith, c.shared_slice_known-1.given args.at, c.shared_slice_known-1.given (args.at + 1)))
