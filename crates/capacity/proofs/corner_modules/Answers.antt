@@ -1,0 +1,10 @@
+-- `capacity::corner_modules` meets its contract. Assumes nothing.
+use native.Mathlib.Omega.{arith}
+use borrow.Author.Tests.{eq-eqb, ne_eqb}
+use Rattle.capacity.proofs.corner_modules.Goals as goal
+
+pub returns-then-kind-eq0 : goal.returns-then-kind-eq0
+returns-then-kind-eq0 c = (rw (eq-eqb c.args.kind 0 c.if-kind-eq0.true), omega arith)
+
+pub returns : goal.returns
+returns c = (rw (ne_eqb c.args.kind 0 c.if-kind-eq0.false), omega arith)
