@@ -1,3 +1,2 @@
 // Theorems about the definitions of `calls`, in proofs/: the three demands. This crate has no functions.
 #![tactic(auto)]
-

@@ -43,11 +43,11 @@ returns c =
     let inner = c.inner_patterns-inner in
     let corner = c.corner_modules in (
       modules_are args.p.kind args.p.horizontal args.p.vertical args.listed
-          across.result down.result inner.result corner.result c.saturating_sub-unpatterned.result
+          across.result down.result inner.result corner.result c.saturating_sub.result
           across.ensures
           down.ensures
           (inner.ensures.0 ∙ ap₂ inner_patterns h-is v-is)
           corner.ensures.0
-          (c.saturating_sub-unpatterned.ensures ∙ ap (λ (n : ℕ). n - args.listed) c.saturating_sub-unpatterned.ensures),
+          (c.saturating_sub.ensures ∙ ap (λ (n : ℕ). n - args.listed) c.saturating_sub-unpatterned.ensures),
       omega (arith, all_most (goal.at.returns c).After-side_size-2),
     )

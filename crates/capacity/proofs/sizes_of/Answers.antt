@@ -78,10 +78,10 @@ returns c =
     let wc = c.wide-wc in
     let across = c.side_size in
     let down = c.side_size-2 in
-    sizes_are a.p a.listed across.result down.result c.wide-c.result n.result wc.result wr.result
+    sizes_are a.p a.listed across.result down.result c.wide.result n.result wc.result wr.result
     across.ensures
     down.ensures
-    (c.wide-c.ensures ∙ d.ensures)
+    (c.wide.ensures ∙ d.ensures)
     (capacity_of a.p a.listed m.result d.result b.result n.result m.ensures.0 d.ensures b.ensures n.ensures)
     wc.ensures
     wr.ensures

@@ -18,5 +18,5 @@ overflow_mul-x0-2 c = Fits-bits 64 tt (product_lt (mask_lt c.args.x 32) (mask_lt
 pub returns : goal.returns
 returns c =
     let a = c.args in
-    c.wrapping_add_u64.ensures
-    ∙ rw (c.wrapping_add_u64-cross.ensures, and_mask a.x 32, and_mask a.y 32) (wrapped a.x a.y)
+    c.wrapping_add_u64.ensures.value
+    ∙ rw (c.wrapping_add_u64-cross.ensures.value, and_mask a.x 32, and_mask a.y 32) (wrapped a.x a.y)

@@ -11,7 +11,8 @@ use Rattle.lister.proofs.list_side.Goals as goal
 pub returns : goal.returns
 returns c =
     let t = c.side_text in
-    let number_of_lem = c.number_of-version in
-    let number = number_of_lem.ensures ∙ ap scan_number c.scan.ensures in
+    let read = c.number_of-version in
+    let number = read.ensures ∙ ap scan_number c.scan.ensures in
     let same = ap side_text number ∙ scan_listing c.args.input.now in
-    subst (λ (text : List ℕ). Stored text c.args.out.now t.new.1.0 t.result) same t.ensures
+    let stored = subst (λ (text : List ℕ). Stored text c.args.out.now t.new.out t.result) same (t.ensures.value, t.ensures.out_after) in
+    record { value = stored.0; out_after = stored.1 }

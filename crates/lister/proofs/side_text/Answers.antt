@@ -16,13 +16,15 @@ pub returns-then-version-lt1 : goal.returns-then-version-lt1
 unfolding refused_line
 returns-then-version-lt1 c =
     let refused = refused_below c.args.version c.if-version-lt1.true in
-    from_start (same_piece refused c.put_text.ensures) (omega (arith, ap length refused))
+    let stored = from_start (same_piece refused c.put_text.ensures) (omega (arith, ap length refused)) in
+    record { value = stored.0; out_after = stored.1 }
 
 pub returns-then-version-gt32 : goal.returns-then-version-gt32
 unfolding refused_line
 returns-then-version-gt32 c =
     let refused = refused_above c.args.version c.if-version-gt32.true in
-    from_start (same_piece refused c.put_text-then-version-gt32.ensures) (omega (arith, ap length refused))
+    let stored = from_start (same_piece refused c.put_text-then-version-gt32.ensures) (omega (arith, ap length refused)) in
+    record { value = stored.0; out_after = stored.1 }
 
 -- the first line is that of the side's size
 first-line : (c : After-put_number_line-second)
@@ -48,6 +50,7 @@ returns c =
     let v = c.args.version in
     let least = c.if-version-lt1.false in
     let most = c.if-version-gt32.false in
-    let third = same_piece (ap number_line inner-patterns.ensures.0) c.put_number_line-second.ensures in
+    let third = same_piece (ap number_line inner-patterns.ensures.0) c.put_number_line.ensures in
     let lines = joined (joined (first-line (goal.at.returns c).After-put_number_line-second) c.put_cores_line-third.ensures) third in
-    from_start (same_piece (three_lines v least most) lines) (text_length v least most)
+    let stored = from_start (same_piece (three_lines v least most) lines) (text_length v least most) in
+    record { value = stored.0; out_after = stored.1 }
