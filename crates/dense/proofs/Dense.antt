@@ -61,15 +61,15 @@ differ_bit (suc (suc x)) y h g = absurd (omega arith)
 differ_bit zero (suc (suc y)) h g = absurd (omega arith)
 differ_bit (suc zero) (suc (suc y)) h g = absurd (omega arith)
 
-bit_xor : (u v k : ℕ) → byte_bit (bit_xor u v) k ≡ xor (byte_bit u k) (byte_bit v k)
-bit_xor u v k =
+xor_bits : (u v k : ℕ) → byte_bit (bit_xor u v) k ≡ xor (byte_bit u k) (byte_bit v k)
+xor_bits u v k =
     ap (λ (z : ℕ). eqb (z % 2) 1) (xor_shr u v k)
     ∙ ap (λ (z : ℕ). eqb z 1) (xor_digit (u / 2 ^ k) (v / 2 ^ k))
     ∙ differ_bit (u / 2 ^ k % 2) (v / 2 ^ k % 2) (omega arith) (omega arith)
 
 -- a byte of 0 has no bit
 pub zero_bit : (k : ℕ) → byte_bit 0 k ≡ false
-zero_bit k = ap (λ (v : ℕ). byte_bit v k) (sym (xor_self 0)) ∙ bit_xor 0 0 k ∙ xor_same (byte_bit 0 k)
+zero_bit k = ap (λ (v : ℕ). byte_bit v k) (sym (xor_self 0)) ∙ xor_bits 0 0 k ∙ xor_same (byte_bit 0 k)
 
 -- the bits of the powers of two in a byte, computed
 power_bits : all_below 8 (λ b. all_below 8 (λ k. eqb (1 * 2 ^ b % 2 ^ 8 / 2 ^ k % 2) (tally (eqb k b)))) ≡ true
@@ -139,7 +139,7 @@ turned_bit s i j v e xs inside h x c g =
           let both : (x ≡ i) × (c / 8 ≡ j / 8) = same_place s x i (c / 8) (j / 8) g h same in
           ap (λ (z : ℕ). byte_bit (get_or (set xs at w) z 0) (c % 8)) same
           ∙ ap (λ (z : ℕ). byte_bit z (c % 8)) (get_or-set_same xs at w 0 inside)
-          ∙ bit_xor (get_or xs at 0) v (c % 8)
+          ∙ xor_bits (get_or xs at 0) v (c % 8)
           ∙ ap₂ xor (ap (λ (z : ℕ). byte_bit (get_or xs z 0) (c % 8)) (sym same))
           (ap (λ (z : ℕ). byte_bit z (c % 8)) e
           ∙ power_bit (j % 8) (c % 8) (omega arith) (omega arith)
@@ -232,7 +232,7 @@ added_all {s} {i} {t} {n} {before} {after} r =
         elim (dec_lt (c / 8) n) [
           | yes l ↦
               ap (λ (z : ℕ). byte_bit z (c % 8)) (r.done (c / 8) l)
-              ∙ bit_xor (get_or before (i * s + c / 8) 0) (get_or before (t * s + c / 8) 0) (c % 8)
+              ∙ xor_bits (get_or before (i * s + c / 8) 0) (get_or before (t * s + c / 8) 0) (c % 8)
               ∙ sym (ap (λ (b : Bool). xor (dense_bits before s i c) (b && dense_bits before s t c)) (lt-ltb (c / 8) n l))
           | no l ↦
               ap (λ (z : ℕ). byte_bit z (c % 8)) (r.rest (c / 8) (omega arith))
@@ -347,7 +347,7 @@ parity_byte s i k b xs both h e =
     let v : ℕ = get_or xs (k * s + b) 0 in
     let more : b * 8 + 8 ≡ (b + 1) * 8 = omega arith in
     parity_ext 8 (byte_bit (bit_xor both (bit_and u v))) (λ q. xor (byte_bit both q) (byte_bit u q && byte_bit v q))
-    (λ q g. bit_xor both (bit_and u v) q ∙ ap (xor (byte_bit both q)) (and_bit u v q))
+    (λ q g. xor_bits both (bit_and u v) q ∙ ap (xor (byte_bit both q)) (and_bit u v q))
     ∙ parity_xor 8 (byte_bit both) (λ q. byte_bit u q && byte_bit v q)
     ∙ ap₂ xor e (parity_ext 8 (λ q. byte_bit u q && byte_bit v q) (λ q. dense_bits xs s i (b * 8 + q) && dense_bits xs s k (b * 8 + q))
     (λ q g. ap₂ ◌&&◌ (there i q g) (there k q g)))

@@ -1,11 +1,11 @@
 use Prim.Native.Nat.{ℕ, ◌-◌, ◌+◌, ◌%◌}
 use mathlib.Core.Path.{◌≡◌, ◌∙◌}
-use mathlib.Core.Logic.{⊎_elim}
 use native.Mathlib.Omega.{arith}
 use lib.ListN.{get_or}
 use borrow.Author.Tests.{eq-eqb, ne_eqb}
 use Rattle.dense.proofs.Dense.{in_row, packed_start, packed_zero, packed_one, packed_all}
 use Rattle.dense.proofs.pack.Goals as goal
+use Rattle.dense.proofs.pack.Goals.{then-xs-word-eq1, else-xs-word-eq1}
 
 pub clear-requires : goal.clear-requires
 clear-requires c = (omega arith, omega arith)
@@ -33,9 +33,10 @@ loop-j-preserved c =
     let bit : ℕ = get_or c.clear.new.xs place 0 % 2 in
     let same = packed.changed.kept place (omega (arith, c.requires.1)) in (
       omega arith,
-      ⊎_elim (λ way. rw way.5 (packed_one packed (eq-eqb bit 1 (omega (arith, same, way.0.taken))) way.2.ensures))
-          (λ way. rw way.1 (packed_zero packed (ne_eqb bit 1 (λ f. way.0.left (omega (arith, same))))))
-          c.if-xs-word-eq1.branch,
+      elim c.if-xs-word-eq1.branch [
+        | then-xs-word-eq1 w ↦ rw w.xs-is (packed_one packed (eq-eqb bit 1 (omega (arith, same, w.if-xs-word-eq1.true))) w.turn.ensures)
+        | else-xs-word-eq1 w ↦ rw w.xs-is (packed_zero packed (ne_eqb bit 1 (λ f. w.if-xs-word-eq1.false (omega (arith, same)))))
+      ],
     )
 
 pub shape_of-xs : goal.shape_of-xs
