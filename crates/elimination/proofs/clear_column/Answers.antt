@@ -47,9 +47,10 @@ loop-i-preserved c =
     let r = c.loop-i.invariant.1 in (
       omega arith,
       elim c.if-work-a-eq0.branch [
-        | then-work-a-eq0+then-bit w ↦ let one = sym w.if-bit.ensures ∙ w.add_row-arg-1.taken in
-            rw w.8 (cleared_add pre.0 r pre.2 pre.3 (omega arith) w.if-work-a-eq0.true one w.work-1.ensures)
-        | then-work-a-eq0+else-bit w ↦ rw w.4 (cleared_zero pre.0 r pre.2 (sym w.if-bit.ensures ∙ w.work-is.left))
+        | then-work-a-eq0+then-bit w ↦
+            let one = sym w.bit.ensures ∙ w.if-bit.true in
+            rw w.work-is (cleared_add pre.0 r pre.2 pre.3 (omega arith) w.if-work-a-eq0.true one w.add_row.ensures)
+        | then-work-a-eq0+else-bit w ↦ rw w.work-is (cleared_zero pre.0 r pre.2 (sym w.bit.ensures ∙ w.if-bit.false))
         | else-work-a-eq0 w ↦ rw w.work-is (cleared_marked pre.0 r w.if-work-a-eq0.false)
       ],
     )

@@ -12,7 +12,7 @@ use Rattle.elimination.specs.Reduced.{is_unmarked, is_free, ColumnCleared}
 use Rattle.elimination.proofs.Eliminated.{Eliminating, eliminating_start, eliminating_all, noted_before, message_step}
 use Rattle.elimination.proofs.Eliminated.{pivot_ends, check_step, marked_before}
 use Rattle.elimination.proofs.eliminate.Goals as goal
-use Rattle.elimination.proofs.eliminate.Goals.{After-clear, After-clear_column, After-clear_column-arg-1, After-slice_known-2-1, After-work-1, At-loop-j, In-loop-j, Start}
+use Rattle.elimination.proofs.eliminate.Goals.{After-clear_column, After-clear_column-arg-1, After-slice_known-2-1, After-work-1, At-loop-j, In-loop-j}
 
 -- ---- before the loop
 pub overflow_add-a : goal.overflow_add-a
@@ -27,13 +27,6 @@ pub loop-j-init : goal.loop-j-init
 loop-j-init c = (λ entry l cleared. eliminating_start l cleared, omega arith, λ i h. absurd (omega arith))
 
 -- ---- at the loop's head
--- the moments before it: the marks are cleared, and the function is entered
-abbrev clearing : At-loop-j → After-clear
-clearing at-loop = (goal.at.At-loop-j at-loop).After-clear
-
-abbrev entering : At-loop-j → Start
-entering at-loop = at-loop.before.before.before.before
-
 -- the columns from j on are eliminated, from the buffer at entry
 so_far : (at-loop : At-loop-j)
     → let args = at-loop.args in Eliminating args.a at-loop.loop-j.j args.work.now at-loop.loop-j.work

@@ -62,7 +62,7 @@ loop-i-preserved c =
     let next = search_next (is_free args.a args.work.now args.j) args.a.checks i c.loop-i.invariant (omega arith) in
     elim c.if-work-a-eq0.branch [
       | then-work-a-eq0+else-bit w ↦ next (zero_row args.a args.work.now args.j i w.bit.ensures w.if-bit.false)
-      | else-work-a-eq0 w ↦ next (marked_row args.a args.work.now args.j i w.left)
+      | else-work-a-eq0 w ↦ next (marked_row args.a args.work.now args.j i w.if-work-a-eq0.false)
     ]
 
 pub returns : goal.returns
