@@ -23,11 +23,11 @@ use symbology::Params;
 // of the tests 1 to 3 applies to parameters and list, each work buffer is long enough for test 5, and the net
 // bits of all three are bits.
 pub fn encode_sum(p: Params, list: &[u16], x: &mut [u8], y: &mut [u8], sum: &mut [u8])
-    requires list_value { (sizes_answer p list.now).number ≡ 0 }
-    requires fact { let s = sizes_for p list.now in (s.work ≤ length x.old) × (s.work ≤ length y.old) × (s.work ≤ length sum.old) }
-    requires fact_2 { let a = areas_of (sizes_for p list.now) in AllBits (net_in a x.old) × AllBits (net_in a y.old) × AllBits (net_in a sum.old) }
-    ensures fact_3 { let s = sizes_for p list.now in let a = areas_of s in (word_in a x.new ≡ codeword_for s (net_in a x.old)) × (word_in a y.new ≡ codeword_for s (net_in a y.old)) × (word_in a sum.new ≡ codeword_for s (net_in a sum.old)) }
-    ensures sum_after { let a = areas_of (sizes_for p list.now) in net_in a sum.old ≡ bitwise_sum (net_in a x.old) (net_in a y.old) → word_in a sum.new ≡ bitwise_sum (word_in a x.new) (word_in a y.new) }
+    requires sized { (sizes_answer p list.now).number ≡ 0 }
+    requires room { let s = sizes_for p list.now in (s.work ≤ length x.old) × (s.work ≤ length y.old) × (s.work ≤ length sum.old) }
+    requires bits { let a = areas_of (sizes_for p list.now) in AllBits (net_in a x.old) × AllBits (net_in a y.old) × AllBits (net_in a sum.old) }
+    ensures words { let s = sizes_for p list.now in let a = areas_of s in (word_in a x.new ≡ codeword_for s (net_in a x.old)) × (word_in a y.new ≡ codeword_for s (net_in a y.old)) × (word_in a sum.new ≡ codeword_for s (net_in a sum.old)) }
+    ensures adds { let a = areas_of (sizes_for p list.now) in net_in a sum.old ≡ bitwise_sum (net_in a x.old) (net_in a y.old) → word_in a sum.new ≡ bitwise_sum (word_in a x.new) (word_in a y.new) }
 {
     let s = capacity::sizes_of(p, list.len() / 3);
     let a = lent::areas_for(s);
@@ -40,8 +40,8 @@ pub fn encode_sum(p: Params, list: &[u16], x: &mut [u8], y: &mut [u8], sum: &mut
 // state, and where one is the sum of the others, it still is. They have at most 4,096 bytes each.
 pub fn shuffle_sum(x: &mut [u8], y: &mut [u8], sum: &mut [u8], state: u64)
     requires { (length x.old ≡ length sum.old) × (length y.old ≡ length sum.old) × (length sum.old ≤ 4096) }
-    ensures x_after { (x.new ≡ shuffled 0 state x.old) × (y.new ≡ shuffled 0 state y.old) × (sum.new ≡ shuffled 0 state sum.old) }
-    ensures sum_after { sum.old ≡ bitwise_sum x.old y.old → sum.new ≡ bitwise_sum x.new y.new }
+    ensures words { (x.new ≡ shuffled 0 state x.old) × (y.new ≡ shuffled 0 state y.old) × (sum.new ≡ shuffled 0 state sum.old) }
+    ensures adds { sum.old ≡ bitwise_sum x.old y.old → sum.new ≡ bitwise_sum x.new y.new }
 {
     shuffle::shuffle(x, state);
     shuffle::shuffle(y, state);
