@@ -25,7 +25,8 @@ use Rattle.calls.specs.declared.Counts.{Counts}
 use Rattle.calls.specs.declared.ReadAnswer.{ReadAnswer}
 use Rattle.calls.specs.Answers.{counted, counts_in}
 use Rattle.calls.specs.Tests.{Row, short_places, stream_rows, accepted_rows, received_rows, reaches_checks}
-use Rattle.calls.specs.Read.{message_in, places_in, front_after, answer_from_accepted, answer_from_received, received_counts, read_answer, counts_of}
+use Rattle.calls.specs.Read.{message_in, places_in, front_after, answer_from_accepted, answer_from_received, received_counts, read_answer}
+use Rattle.calls.specs.Read.{counts_of}
 use Rattle.calls.specs.Write.{work_after}
 use Rattle.calls.specs.Mending.{Mends}
 use Rattle.calls.specs.Promises.{Reads}

@@ -121,7 +121,8 @@ pub record WritesAndReads (p : Params) (l stream matrix : List ℕ) (work : ℕ)
       → (write_answer p l stream (length matrix) work ≡ answer 6 0) × (matrix_after_write p l stream work matrix ≡ matrix)
   -- otherwise the matrix is the one that the papers define
   pub written : suc (length stream) ≤ (sizes_for p l).net
-      → (write_answer p l stream (length matrix) work ≡ answer 0 0) × (matrix_after_write p l stream work matrix ≡ written_matrix p l stream)
+      → (write_answer p l stream (length matrix) work ≡ answer 0 0)
+      × (matrix_after_write p l stream work matrix ≡ written_matrix p l stream)
   -- and a read of it gives back the message that the stream reads as, with no repair, no unmet check and no wrong stuffing bit, and leaves
   -- the slice for places as it came, however long it is
   pub read_back : (message buffer places : List ℕ) (readWork : ℕ)
@@ -202,7 +203,8 @@ writes_and_reads p l stream matrix work e =
 -- ---- every write
 
 -- a write that is done was legal
-done_legal : (p : Params) (l stream : List ℕ) (modules work : ℕ) → (write_answer p l stream modules work).number ≡ 0 → Legal p l modules work
+done_legal : (p : Params) (l stream : List ℕ) (modules work : ℕ) → (write_answer p l stream modules work).number ≡ 0
+    → Legal p l modules work
 unfolding write_answer write_rows is_legal
 done_legal p l stream modules work e =
     legal p l modules work

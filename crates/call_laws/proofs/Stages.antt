@@ -88,7 +88,8 @@ module _ (s : Sizes) (w : List ℕ) (c : Counts) (room : ℕ) where
   accepted_stream none = first_miss (counted c) (spare_one s w) [] streamed none ∙ first_none (counted c) streamed
 
   -- all rows of an accepted word as one table
-  pub accepted_table : answer_from_accepted s w c room ≡ first_of (counted c) (accepted_rows s w room) (done c (length (message_in_accepted s w)))
+  pub accepted_table : answer_from_accepted s w c room
+      ≡ first_of (counted c) (accepted_rows s w room) (done c (length (message_in_accepted s w)))
   unfolding answer_from_accepted accepted_rows message_in_accepted
   accepted_table =
       let net : List ℕ = take s.net (message_bits_for s w) in
@@ -267,7 +268,8 @@ module _ (p : Params) (l matrix : List ℕ) (work : ℕ) where
         (each_all (λ r. r.test ≡ true → Q (counted (counts_of p l matrix) r.number r.place)) (λ r t. refl) _) (λ few fits. refl))
 
     -- The counts of a read are its matrix's where it reaches the checks, and else 0: the room for message and places changes none.
-    pub read_counts : counts_in (read_answer p l matrix work room slots) ≡ cond (reaches_checks p l matrix work) (counts_of p l matrix) no_counts
+    pub read_counts : counts_in (read_answer p l matrix work room slots)
+        ≡ cond (reaches_checks p l matrix work) (counts_of p l matrix) no_counts
     read_counts =
         by (reaches_checks p l matrix work) (λ e. rw e (reaches_counts e))
         (λ e.
@@ -276,6 +278,7 @@ module _ (p : Params) (l matrix : List ℕ) (work : ℕ) where
         rw e (read_keeps Q early (λ t. clash t e) (λ t. clash t e)))
 
     -- Document 02, W-202: the wrong stuffing bits are counted in the answer of every read that passes 7, and 0 stands in others.
-    pub read_stuffing : (read_answer p l matrix work room slots).stuffing ≡ cond (reaches_checks p l matrix work) (wrong_stuffing p l matrix) 0
+    pub read_stuffing : (read_answer p l matrix work room slots).stuffing
+        ≡ cond (reaches_checks p l matrix work) (wrong_stuffing p l matrix) 0
     read_stuffing =
         ap (λ (c : Counts). c.stuffing) read_counts ∙ by (reaches_checks p l matrix work) (λ e. rw e refl) (λ e. rw e refl)

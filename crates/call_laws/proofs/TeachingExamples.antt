@@ -42,7 +42,8 @@ is_left x y = eqb x 1 && eqb y 1 || eqb x 10 && eqb y 10 || eqb x 21 && eqb y 20
 
 -- an entry for every other module that no pattern covers
 unfoldable reserved : List ℕ
-unfolding symbol is_left join_from core_table cores_of near_core finder pattern_of in_squares colour_in meeting pattern_at covered pattern_colour
+unfolding symbol is_left join_from core_table cores_of near_core finder pattern_of in_squares colour_in meeting pattern_at covered
+    pattern_colour
 reserved =
     join_from 1 21 (λ x. join_from 1 21 (λ y. cond (covered (pattern_colour symbol x y) || is_left x y) [] (x ∷ y ∷ ((x + y) % 8) ∷ [])))
 
@@ -63,9 +64,9 @@ the_sizes_lem = refl
 
 -- of a legal symbol, with Pn 2 and Pg 8
 code : List ℕ → List ℕ
-unfolding tabulate those has all_below temper state_after scaled raw_place place_of mul div of_int to_unsigned drawn_place exchanged shuffled_first
-    shuffled column_order matrix_a check_of checks_of bit_sum unmet unmet_count xor is_sum check_columns is_check_column message_columns carries words
-    first_word codeword codeword_for
+unfolding tabulate those has all_below temper state_after scaled raw_place place_of mul div of_int to_unsigned drawn_place exchanged
+    shuffled_first shuffled column_order matrix_a check_of checks_of bit_sum unmet unmet_count xor is_sum check_columns is_check_column
+    message_columns carries words first_word codeword codeword_for
 code net = codeword_for small net
 
 codewords : (code (1 ∷ 1 ∷ []) ∷ code (0 ∷ 1 ∷ []) ∷ [])
@@ -116,8 +117,8 @@ matrix = tabulate 441 (λ i. i % 256)
 
 -- the list has one entry, at column 2 of row 1
 under_mask : ℕ → List ℕ → List ℕ
-unfolding symbol tabulate lowest core_table cores_of near_core finder pattern_of in_squares colour_in meeting pattern_at pattern_colour entry_at
-    first_entry pattern_cell cell_of is_data mask_generators mask_at masked
+unfolding symbol tabulate lowest core_table cores_of near_core finder pattern_of in_squares colour_in meeting pattern_at pattern_colour
+    entry_at first_entry pattern_cell cell_of is_data mask_generators mask_at masked
 under_mask mask m = masked symbol (2 ∷ 1 ∷ 5 ∷ []) mask m
 
 -- two data modules, at column 1 of row 2 and column 21 of row 20, under mask 6; the entry, and the core of UL, which no mask changes
@@ -139,8 +140,8 @@ masked_back = refl
 
 -- none of the tests 1 to 3 applies to the symbol of the codewords above
 none_applies : (sizes_answer symbol reserved).number ≡ 0
-unfolding reserved all_hold range_tests in_range lowest inner_patterns bits_per_module pattern_modules data_modules as_bits capacity sizes_of entry_at
-    first_entry bad_entry bad_at entry_verdict list_verdict list_number list_place first_of size_rows sizes_answer
+unfolding reserved all_hold range_tests in_range lowest inner_patterns bits_per_module pattern_modules data_modules as_bits capacity
+    sizes_of entry_at first_entry bad_entry bad_at entry_verdict list_verdict list_number list_place first_of size_rows sizes_answer
 none_applies = refl
 
 -- each bit turned

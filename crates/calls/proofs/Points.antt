@@ -137,9 +137,9 @@ points =
 
 pub all_points : T (all_hold points)
 unfolding all_hold lowest tabulate has value bits any_one range_tests in_range core_table cores_of inner_patterns list_verdict entry_verdict
-    list_number list_place bits_per_module pattern_modules data_modules as_bits capacity sizes_of scaled raw_place place_of mul div of_int to_unsigned
-    bit_sum unmet unmet_count unmet_at met_at is_suspect suspect turned ends repairs after_turns repairs_of places_of last_word stuck read_code
-    read_codes decode byte_runs byte_stream up_to_last_one stream_in stuffing stream_of same first_of size_rows front_rows write_rows early_rows
-    stream_rows write_answer stream_answer read_answer join_from near_core finder pattern_of in_squares colour_in meeting pattern_at covered
-    pattern_colour entry_at first_entry bad_entry bad_at with_end_mark byte_bits run_count byte_run
+    list_number list_place bits_per_module pattern_modules data_modules as_bits capacity sizes_of scaled raw_place place_of mul div of_int
+    to_unsigned bit_sum unmet unmet_count unmet_at met_at is_suspect suspect turned ends repairs after_turns repairs_of places_of last_word
+    stuck read_code read_codes decode byte_runs byte_stream up_to_last_one stream_in stuffing stream_of same first_of size_rows front_rows
+    write_rows early_rows stream_rows write_answer stream_answer read_answer join_from near_core finder pattern_of in_squares colour_in
+    meeting pattern_at covered pattern_colour entry_at first_entry bad_entry bad_at with_end_mark byte_bits run_count byte_run
 all_points = tt

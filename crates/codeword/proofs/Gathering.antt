@@ -109,7 +109,8 @@ module _ {a : Areas} {before after : List ℕ} {j m : ℕ} {spare : Bool} (laid 
   counted_more t = omega (arith, s.counted, ap length (more t), length-append (gathered_to a before j) (bit ∷ []))
 
   -- a bit that is there already
-  old_bit : (t : is_message a before j ≡ true) (i : ℕ) → i < m → get_or (gathered_to a before j) i 0 ≡ get_or (gathered_to a before (j + 1)) i 0
+  old_bit : (t : is_message a before j ≡ true) (i : ℕ) → i < m
+      → get_or (gathered_to a before j) i 0 ≡ get_or (gathered_to a before (j + 1)) i 0
   old_bit t i l =
       sym (ap (λ (bs : List ℕ). get_or bs i 0) (more t)
       ∙ get_or-append (gathered_to a before j) (bit ∷ []) 0 i (omega (arith, s.counted)))

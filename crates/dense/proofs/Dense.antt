@@ -89,7 +89,8 @@ power_bit b k h g =
 -- ---- rows that stay
 
 -- Bits are equal where their bytes are.
-dense_same : (xs ys : List ℕ) (s i c : ℕ) → get_or ys (i * s + c / 8) 0 ≡ get_or xs (i * s + c / 8) 0 → dense_bits ys s i c ≡ dense_bits xs s i c
+dense_same : (xs ys : List ℕ) (s i c : ℕ) → get_or ys (i * s + c / 8) 0 ≡ get_or xs (i * s + c / 8) 0
+    → dense_bits ys s i c ≡ dense_bits xs s i c
 unfolding dense_bits
 dense_same xs ys s i c e = ap (λ (v : ℕ). byte_bit v (c % 8)) e
 
@@ -293,7 +294,8 @@ module _ {s k word j : ℕ} {before after : List ℕ} (p : PackedTo s k word j b
             ∙ ap₂ (λ (b z : Bool). xor b (z && eqb c j)) (p.done c h) (eq-eqb k k refl)
             ∙ elim (ℕ_discrete c j) [
               | yes e ↦
-                  rw e (ap₂ (λ (b z : Bool). xor (b && eqb (get_or before (word + j) 0 % 2) 1) z) (le-ltb j j (omega arith)) (eq-eqb j j refl)
+                  rw e (ap₂ (λ (b z : Bool). xor (b && eqb (get_or before (word + j) 0 % 2) 1) z) (le-ltb j j (omega arith))
+                  (eq-eqb j j refl)
                   ∙ none_xor true ∙ sym (ap₂ ◌&&◌ (lt-ltb j (j + 1) (omega arith)) o))
               | no e ↦
                   ap (xor (ltb c j && eqb (get_or before (word + c) 0 % 2) 1)) (ne_eqb c j e)

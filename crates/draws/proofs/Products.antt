@@ -1,6 +1,7 @@
 -- Products modulo a number, and the product of 64-bit words from products of their 32-bit halves.
 -- Assumes nothing.
-use Rattle.std.proofs.Common.{◌≡◌, ℕ, ◌+◌, ◌*◌, ◌/◌, ◌%◌, ◌^◌, ◌<◌, ◌≤◌, sym, ap, ◌∙◌, le_of_lt, mul-le-mul_right, add-mul, div-add-mod', mul_right_comm, arith}
+use Rattle.std.proofs.Common.{◌≡◌, ℕ, ◌+◌, ◌*◌, ◌/◌, ◌%◌, ◌^◌, ◌<◌, ◌≤◌, sym, ap, ◌∙◌, le_of_lt, mul-le-mul_right, add-mul, div-add-mod'}
+use Rattle.std.proofs.Common.{mul_right_comm, arith}
 use native.Mathlib.Nat.{mul-add-mod_self_right, add-mod-mod}
 use lib.Pow.{split}
 

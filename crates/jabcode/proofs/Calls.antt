@@ -26,7 +26,8 @@ use Rattle.legality.specs.Verdict.{verdict_of}
 use Rattle.legality.proofs.Verdicts.{legal_passes, passed_sizes, refused_answer, refused_numbered}
 
 -- the verdict v of the tests 1 to 5
-module _ (p : Params) (l : List ℕ) (modules work : ℕ) {v : Verdict} (told : v ≡ verdict_of (front_rows p l modules work) (sizes_for p l)) where
+module _ (p : Params) (l : List ℕ) (modules work : ℕ) {v : Verdict}
+    (told : v ≡ verdict_of (front_rows p l modules work) (sizes_for p l)) where
   -- they are passed: the input is legal, and the sizes are those of its symbol
   pub legal_input : {s : Sizes} → v ≡ Legal s → (is_legal p l modules work ≡ true) × (s ≡ sizes_for p l)
   unfolding is_legal

@@ -10,7 +10,8 @@ use lib.ListN.{get_or}
 use Rattle.symbology.specs.Ranges.{those, has}
 use Rattle.symbology.specs.Matrix.{BitMatrix, check_of, checks_of}
 use Rattle.symbology.specs.Rule.{unmet_count}
-use Rattle.symbology.specs.Codeword.{is_sum, check_columns, is_check_column, message_columns, carries, words, first_word, codeword, message_bits}
+use Rattle.symbology.specs.Codeword.{is_sum, check_columns, is_check_column, message_columns, carries, words, first_word, codeword}
+use Rattle.symbology.specs.Codeword.{message_bits}
 use Rattle.laws.proofs.Ranges.{tabulate_ext, those_ext, has_first, has_wider, below_ext}
 use Rattle.laws.proofs.Columns.{column, taken_last}
 

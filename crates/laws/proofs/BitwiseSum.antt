@@ -71,7 +71,8 @@ set_sum x y i a b e =
     let inside : k < length z = omega (arith, length_sum x y) in
     rw (get_or_sum (set x i a) (set y i b) same k)
     (elim (ℕ_discrete k i) [
-      | yes s ↦ rw (s, get_or-set_same z i c 0 (omega arith), get_or-set_same x i a 0 (omega arith), get_or-set_same y i b 0 (omega arith)) refl
+      | yes s ↦ rw
+          (s, get_or-set_same z i c 0 (omega arith), get_or-set_same x i a 0 (omega arith), get_or-set_same y i b 0 (omega arith)) refl
       | no s ↦ rw (get_or-set_other z i k c 0 s, get_or-set_other x i k a 0 s, get_or-set_other y i k b 0 s) (get_or_sum x y e k)
     ]))
 

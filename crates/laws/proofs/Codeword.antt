@@ -279,7 +279,8 @@ module _ (k n : ℕ) (a : BitMatrix) (m : List ℕ) (bits : AllBits m) where
 -- bits in the ones of its row.
 pub codeword_filled : (k n : ℕ) (a : BitMatrix) (m : List ℕ) (r : BitMatrix) (used : ℕ → Bool) (row : ℕ → ℕ)
     → Inv k n a (is_check_column k n a) r used row 0 → (w : List ℕ) → length w ≡ n → AllBits w
-    → ((c : ℕ) → c < n → is_check_column k n a c ≡ false → get_or w c 0 ≡ get_or m (length (those c (λ j. not (is_check_column k n a j)))) 0)
+    → ((c : ℕ) → c < n → is_check_column k n a c ≡ false
+    → get_or w c 0 ≡ get_or m (length (those c (λ j. not (is_check_column k n a j)))) 0)
     → ((c : ℕ) → c < n → is_check_column k n a c ≡ true → bit_at w c ≡ dot c (r (row c)) (bit_at w))
     → codeword k n a m ≡ w
 unfolding message_columns

@@ -183,7 +183,8 @@ module _ (k n : ℕ) (a : BitMatrix) where
   check_free : (j : ℕ) → j < n → is_check_column k n a j ≡ true → (d : ℕ → Bool) → Dependency k n a (is_check_column k n a) j d → ⊥
   check_free j h t d p =
       let m : ℕ = n - suc j in
-      true≢false (sym (word_sum k n a (check_columns k n a m) (λ i. a i j) (turn j d) (λ c o. (taken_last m (omega arith) c o).1) inside adds)
+      true≢false
+      (sym (word_sum k n a (check_columns k n a m) (λ i. a i j) (turn j d) (λ c o. (taken_last m (omega arith) c o).1) inside adds)
       ∙ not-true (sum_of_taken m j) (sym (check_literal j h) ∙ t))
     where
       inside : (c : ℕ) → c < n → turn j d c ≡ true → has c (check_columns k n a (n - suc j)) ≡ true

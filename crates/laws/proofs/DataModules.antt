@@ -34,7 +34,8 @@ free p l n x y = not (covered (pattern_colour p x y)) && not (listed l n x y)
 pub is_data_lem : (p : Params) (l : List ℕ) (x y : ℕ)
     → is_data (cell_of p l x y) ≡ (not (covered (pattern_colour p x y)) && not (ltb (first_entry l (entries l) x y) (entries l)))
 unfolding cell_of is_data pattern_cell covered
-is_data_lem p l x y = go (ltb (first_entry l (entries l) x y) (entries l)) (entry_colour l (first_entry l (entries l) x y)) (pattern_colour p x y)
+is_data_lem p l x y =
+    go (ltb (first_entry l (entries l) x y) (entries l)) (entry_colour l (first_entry l (entries l) x y)) (pattern_colour p x y)
   where
     go : (t : Bool) (v : ℕ) (colour : PatternColour) → is_data (cond t (Fixed v) (pattern_cell p colour)) ≡ (not (covered colour) && not t)
     go true v Outside = refl
@@ -58,7 +59,8 @@ free_modules p l n = sum_from 0 (columns p) (free_in_column p l n)
 free_same : (p : Params) (l : List ℕ) (n x y : ℕ) → entry_at l x y n ≡ false → tally (free p l n x y) ≡ tally (free p l (suc n) x y)
 free_same p l n x y e = rw (listed_more l n x y, e) (go (listed l n x y))
   where
-    go : (t : Bool) → tally (not (covered (pattern_colour p x y)) && not t) ≡ tally (not (covered (pattern_colour p x y)) && not (t || false))
+    go : (t : Bool)
+        → tally (not (covered (pattern_colour p x y)) && not t) ≡ tally (not (covered (pattern_colour p x y)) && not (t || false))
     go true = refl
     go false = refl
 
@@ -73,7 +75,8 @@ free_taken p l n x y a b s =
 -- so each entry takes one module
 free_step : (p : Params) (l : List ℕ) (n : ℕ) → SoundEntry p l n → free_modules p l n ≡ free_modules p l (suc n) + 1
 free_step p l n s =
-    sum_point (free_in_column p l n) (free_in_column p l (suc n)) 1 (entry_column l n - 1) 0 (columns p) (omega arith) (omega arith) here others
+    sum_point (free_in_column p l n) (free_in_column p l (suc n)) 1 (entry_column l n - 1) 0 (columns p) (omega arith)
+    (omega arith) here others
   where
     here : free_in_column p l n (entry_column l n - 1) ≡ free_in_column p l (suc n) (entry_column l n - 1) + 1
     here =

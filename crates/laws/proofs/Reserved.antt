@@ -139,5 +139,6 @@ unfolding first_entry entry_at
 entries_differ p l s i k less inner a b =
     let x : ℕ = entry_column l k in
     let y : ℕ = entry_row l k in
-    let free : entry_at l x y i ≡ false = lowest_before (entry_at l x y) k 0 i (omega arith) (omega (arith, (s.entry k inner).named_once)) in
+    let free : entry_at l x y i ≡ false =
+    lowest_before (entry_at l x y) k 0 i (omega arith) (omega (arith, (s.entry k inner).named_once)) in
     clash (and_both (eqb (entry_column l i) x) (eqb (entry_row l i) y) (eq-eqb (entry_column l i) x a) (eq-eqb (entry_row l i) y b)) free

@@ -31,7 +31,8 @@ closest_cases P x u less half more =
     r : ℕ
     r = x % u * 2
 
-    go : (o : Ordering) → (T (is_le o) → r ≤ u) → (T (not (is_le o)) → u < r) → (T (compare_is_eq o) → r ≡ u) → (r ≡ u → T (compare_is_eq o))
+    go : (o : Ordering) → (T (is_le o) → r ≤ u) → (T (not (is_le o)) → u < r) → (T (compare_is_eq o) → r ≡ u)
+        → (r ≡ u → T (compare_is_eq o))
         → P (nearest (x / u) o)
     go Ordering.lt h k e n = less (lt_of_le-ne (h tt) n)
     go Ordering.eq h k e n = half (e tt)
@@ -132,7 +133,8 @@ single_shifted a t =
       | no h ↦
           let few : size a ≤ 24 = omega arith in
           let small : a < 2 ^ 24 = lt_of_lt_of_le (size-lt a) (pow_mono few) in
-          single_exact a t small ∙ ap (λ (x : ℕ). x * 2 ^ t) (sym (ap nearest_single (sym (mul-one a)) ∙ single_exact a 0 small ∙ mul-one a))
+          single_exact a t small
+          ∙ ap (λ (x : ℕ). x * 2 ^ t) (sym (ap nearest_single (sym (mul-one a)) ∙ single_exact a 0 small ∙ mul-one a))
     ]
 
 -- ---- rounding of a fraction

@@ -144,7 +144,8 @@ module _ {A : Type 0} (z : A) where
 
   -- ---- a property of all elements
 
-  first_every : (P : A → Type 0) (n s : ℕ) (xs : List A) → ((i : ℕ) → P (get_or xs i z)) → (i : ℕ) → P (get_or (shuffled_first z n s xs) i z)
+  first_every : (P : A → Type 0) (n s : ℕ) (xs : List A) → ((i : ℕ) → P (get_or xs i z)) → (i : ℕ)
+      → P (get_or (shuffled_first z n s xs) i z)
   unfolding shuffled_first
   first_every P zero s xs h = h
   first_every P (suc n) s xs h =
@@ -157,11 +158,13 @@ module _ {A : Type 0} (z : A) where
   unfolding shuffled
   shuffled_every P s xs h = first_every P (length xs) s xs h
 
-  unfirst_every : (P : A → Type 0) (n s : ℕ) (xs : List A) → ((i : ℕ) → P (get_or xs i z)) → (i : ℕ) → P (get_or (unshuffled_first z n s xs) i z)
+  unfirst_every : (P : A → Type 0) (n s : ℕ) (xs : List A) → ((i : ℕ) → P (get_or xs i z)) → (i : ℕ)
+      → P (get_or (unshuffled_first z n s xs) i z)
   unfolding unshuffled_first
   unfirst_every P zero s xs h = h
   unfirst_every P (suc n) s xs h =
-      exchanged_every P (drawn_place (next_state s) (suc n)) n (unshuffled_first z n (next_state s) xs) (unfirst_every P n (next_state s) xs h)
+      exchanged_every P (drawn_place (next_state s) (suc n)) n (unshuffled_first z n (next_state s) xs)
+      (unfirst_every P n (next_state s) xs h)
 
   -- A property of all elements is one of all elements of the list with the permutation undone.
   pub unshuffled_every : (P : A → Type 0) (s : ℕ) (xs : List A)

@@ -54,7 +54,8 @@ steps_lower cs w (j ∷ js) v o b s =
     (step_lowers cs w j o b s.1.inside s.1.suspected, steps_lower cs (turned w j) js v o (turned_bits w j b) s.2)
 
 -- Turns that each lower the number of unmet checks lower it by at least their number.
-pub lowers_bounded : (cs : List (List ℕ)) (w js : List ℕ) → Lowers cs w js → length js + unmet_count cs (after_turns w js) ≤ unmet_count cs w
+pub lowers_bounded : (cs : List (List ℕ)) (w js : List ℕ) → Lowers cs w js
+    → length js + unmet_count cs (after_turns w js) ≤ unmet_count cs w
 unfolding Lowers after_turns
 lowers_bounded cs w [] s = omega arith
 lowers_bounded cs w (j ∷ js) s = omega (arith, s.0, lowers_bounded cs (turned w j) js s.1)

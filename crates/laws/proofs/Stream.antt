@@ -112,7 +112,8 @@ code_number : (m : Mode) (e : Expected) (bs out : List ℕ) → EndIsNumber (rea
 code_number m e bs out =
     let w : ℕ = code_width m e in
     let v : ℕ = value (take w bs) in
-    code_by EndIsNumber m e bs out (λ l. after_number (switch_of m e v) (drop w bs) (out ++ bytes_of m e v)) (λ l. end_number_lem e (length bs))
+    code_by EndIsNumber m e bs out (λ l. after_number (switch_of m e v) (drop w bs) (out ++ bytes_of m e v))
+    (λ l. end_number_lem e (length bs))
 
 codes_number : (f : ℕ) (r : Reading) → EndIsNumber r → IsNumber (read_codes f r).number
 unfolding read_codes
@@ -220,8 +221,8 @@ characters_few k table t v = elim (dec_lt v (length table)) [
 ]
 
 latched_few : (m : Mode) (v : ℕ) → length (character_bytes (characters_of m) v) ≤ 1
-unfolding characters_of upper_characters lower_characters numeric_characters alphanumeric_characters tabulate all_below character_bytes utf8Bytes
-    utf8
+unfolding characters_of upper_characters lower_characters numeric_characters alphanumeric_characters tabulate all_below character_bytes
+    utf8Bytes utf8
 latched_few Upper v = characters_few 1 upper_characters refl v
 latched_few Lower v = characters_few 1 lower_characters refl v
 latched_few Numeric v = characters_few 1 numeric_characters refl v

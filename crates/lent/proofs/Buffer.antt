@@ -7,7 +7,8 @@ use native.Mathlib.Decide.{dec_lt, ℕ_discrete}
 use native.Mathlib.Numerals.{add-one}
 use native.Mathlib.Omega.{arith}
 use lib.ListN.{length, get_or, take, drop, set, length-set, length-drop, get_or-append, get_or-eq_default}
-use lib.Seq.{length-take-le, get_or-take, get_or-drop, get_or-set_same, get_or-set_other, get_or-append-add, take_at, drop_at, take-take, ext_get_or}
+use lib.Seq.{length-take-le, get_or-take, get_or-drop, get_or-set_same, get_or-set_other, get_or-append-add, take_at, drop_at, take-take}
+use lib.Seq.{ext_get_or}
 use borrow.Rule.Slice.PartMut.{put_mid, same_len_mid}
 use Rattle.symbology.specs.Ranges.{tabulate}
 use Rattle.laws.proofs.Ranges.{length_tabulate, get_d_tabulate, tabulate_ext}

@@ -34,4 +34,5 @@ text_length version least most =
 
 pub cores_length : (version : ℕ) → 1 ≤ version → version ≤ 32 → length (cores_after (drop 1 (cores_of version))) ≤ 48
 cores_length version least most =
-    leb-true (length (cores_after (drop 1 (cores_of version)))) 48 (and_right (text_fits version) (cores_fit version) (fits version least most))
+    leb-true (length (cores_after (drop 1 (cores_of version)))) 48
+    (and_right (text_fits version) (cores_fit version) (fits version least most))

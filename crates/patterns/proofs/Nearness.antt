@@ -15,7 +15,8 @@ use Rattle.tables.specs.Rows.{core_row}
 
 module _ (cs : List ℕ) (x i : ℕ) (inside : i < length cs) where
   -- the coordinate is near the core number i
-  pub near_found : (leb (get_or cs i 0) (x + 2) && leb x (get_or cs i 0 + 2)) ≡ true → near_core i (drop i cs) x ≡ Core i (x + 2 - get_or cs i 0)
+  pub near_found : (leb (get_or cs i 0) (x + 2) && leb x (get_or cs i 0 + 2)) ≡ true
+      → near_core i (drop i cs) x ≡ Core i (x + 2 - get_or cs i 0)
   unfolding near_core
   near_found e = rw (drop-cons cs i 0 inside, e)
 

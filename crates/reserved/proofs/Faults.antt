@@ -12,7 +12,8 @@ use Rattle.symbology.specs.declared.ListVerdict.TheVariants.{Sound, Fault}
 use Rattle.symbology.specs.Ranges.{within, lowest}
 use Rattle.symbology.specs.Sides.{columns, rows}
 use Rattle.symbology.specs.Patterns.{pattern_colour, covered}
-use Rattle.symbology.specs.Reserved.{entries, entry_column, entry_row, entry_colour, first_entry, bad_entry, bad_at, entry_verdict, list_verdict}
+use Rattle.symbology.specs.Reserved.{entries, entry_column, entry_row, entry_colour, first_entry, bad_entry, bad_at, entry_verdict}
+use Rattle.symbology.specs.Reserved.{list_verdict}
 use Rattle.laws.proofs.Ranges.{by}
 
 -- ---- a number and its bounds

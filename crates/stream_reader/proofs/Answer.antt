@@ -50,7 +50,8 @@ module _ (net : List ℕ) (room : ℕ) (before : List ℕ) where
       let other : a.number ≡ 0 → ⊥ = λ z. some (sym (ap (λ (b : StreamAnswer). b.number) e) ∙ z) in
       record { answer_is = e ∙ sym same; message_is = kept ∙ sym (refused_front a.number (message_in_net net) before other) }
 
-  pub all_zero : {a : StreamAnswer} {end : ℕ} → end ≡ up_to_last_one net → end ≡ 0 → a ≡ stream_refused 11 0 → NetRead net room before before a
+  pub all_zero : {a : StreamAnswer} {end : ℕ} → end ≡ up_to_last_one net → end ≡ 0 → a ≡ stream_refused 11 0
+      → NetRead net room before before a
   unfolding stream_answer stream_rows first_of
   all_zero is none e = refusing (λ z. omega arith) e refl (rw (up_to_none net (sym is ∙ none)))
 
@@ -79,7 +80,8 @@ module _ (net : List ℕ) (room : ℕ) (before : List ℕ) where
     bad_code_lem h e =
         refusing h e kept (stream_number r.number number_is h (rw number_is (decode_number (stream_in net))))
 
-    pub no_room_lem : {a : StreamAnswer} → r.number ≡ 0 → room < r.count → a ≡ stream_refused 14 0 → NetRead net room before (last ++ before) a
+    pub no_room_lem : {a : StreamAnswer} → r.number ≡ 0 → room < r.count → a ≡ stream_refused 14 0
+        → NetRead net room before (last ++ before) a
     unfolding stream_answer stream_rows first_of
     no_room_lem z h e =
         let more : room < length (message_in_net net) = omega (arith, length_is) in

@@ -29,8 +29,8 @@ abbrev right : ℕ → ℕ → Bool
 right k c = modules_right k (k + 1) c && bits_right k (k + 1) c
 
 all_right : all_below 32 (λ k. all_below 4 (right k)) ≡ true
-unfolding all_below lowest table1 table1Entries square_modules square_bits core_table cores_of inner_patterns bits_per_module pattern_modules
-    data_modules as_bits
+unfolding all_below lowest table1 table1Entries square_modules square_bits core_table cores_of inner_patterns bits_per_module
+    pattern_modules data_modules as_bits
 all_right = refl
 
 module _ (version c : ℕ) (least : 1 ≤ version) (most : version ≤ 32) (inside : c < 4) where

@@ -92,7 +92,8 @@ module _ (v : ℕ) (least : 1 ≤ v) (most : v ≤ 32) where
 
   -- the first core is at 4
   pub core_first : get_or (cores_of v) 0 0 ≡ 4
-  core_first = eqb-true (get_or (cores_of v) 0 0) 4 (and_right (all_inside (side_size v) (cores_of v)) (eqb (get_or (cores_of v) 0 0) 4) from_inside)
+  core_first =
+      eqb-true (get_or (cores_of v) 0 0) 4 (and_right (all_inside (side_size v) (cores_of v)) (eqb (get_or (cores_of v) 0 0) 4) from_inside)
 
   -- two cores of a side are at least 10 apart
   pub cores_apart : (i j : ℕ) → i < j → j < length (cores_of v) → get_or (cores_of v) i 0 + 10 ≤ get_or (cores_of v) j 0

@@ -51,7 +51,8 @@ unfoldable pub more_switches : Mode → List ModeAnswer
 more_switches Upper = Next Upper ShortCount ∷ Next Upper Mixed ∷ Eci ∷ Fnc1 ∷ []
 more_switches Lower = Next Lower ShortCount ∷ Next Lower Mixed ∷ Next Upper Latched ∷ EndOfMessage ∷ []
 more_switches Numeric = Next Numeric ShortCount ∷ Next Numeric Mixed ∷ Next Numeric Capital ∷ Next Lower Latched ∷ []
-more_switches Alphanumeric = Next Alphanumeric ShortCount ∷ Next Alphanumeric Mixed ∷ Next Alphanumeric Punctuation ∷ Next Upper Latched ∷ []
+more_switches Alphanumeric =
+    Next Alphanumeric ShortCount ∷ Next Alphanumeric Mixed ∷ Next Alphanumeric Punctuation ∷ Next Upper Latched ∷ []
 
 -- What the code of value v does. After a character the latched mode stands again. A shift to uppercase mode is for a character: a
 -- switch value there is not defined. 4.3.7: a short count of 0 says that the long one follows, which counts the bytes less 15.

@@ -8,7 +8,8 @@ use Rattle.symbology.specs.Bits.{bits}
 use Rattle.bitfield.proofs.put_bits.Given as goal
 
 abbrev pub invariant-loop-i : goal.invariant-loop-i
-invariant-loop-i l = (l.i ≤ l.n) × (length l.out ≡ length l.initial.out) × (sets l.out l.at (bits l.i l.rest) ≡ sets l.initial.out l.at (bits l.n l.v))
+invariant-loop-i l =
+    (l.i ≤ l.n) × (length l.out ≡ length l.initial.out) × (sets l.out l.at (bits l.i l.rest) ≡ sets l.initial.out l.at (bits l.n l.v))
 
 abbrev pub decreases-loop-i : goal.decreases-loop-i
 decreases-loop-i l = l.i

@@ -12,7 +12,8 @@ use Rattle.capacity.proofs.colours_in_range.Goals as goal
 
 pub returns-then-not-is_four_or_eight : goal.returns-then-not-is_four_or_eight
 unfolding range_tests
-returns-then-not-is_four_or_eight c = one_fails (colour_tests c.args.p) 0 (refused c.is_four_or_eight.ensures (ap not c.if-not-is_four_or_eight.true))
+returns-then-not-is_four_or_eight c =
+    one_fails (colour_tests c.args.p) 0 (refused c.is_four_or_eight.ensures (ap not c.if-not-is_four_or_eight.true))
 
 pub returns-then-p : goal.returns-then-p
 unfolding range_tests

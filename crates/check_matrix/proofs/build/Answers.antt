@@ -54,7 +54,9 @@ pub loop-block-preserved : goal.loop-block-preserved
 loop-block-preserved c =
     let mixed = c.shuffle_numbers-state.ensures in (
       omega arith,
-      blocks_next (size (goal.at.loop-block-preserved c).At-loop-block) c.loop-block.invariant.1 _ mixed.0.numbers_are mixed.0.changed c.turn_block.ensures
+      blocks_next
+          (size (goal.at.loop-block-preserved c).At-loop-block) c.loop-block.invariant.1 _ mixed.0.numbers_are mixed.0.changed
+          c.turn_block.ensures
           mixed.1,
     )
 

@@ -71,7 +71,8 @@ loop-j-preserved c =
     let row = voted_row pre.0 pre.1 inv c.loop-j.j (omega arith) in
     let bit = sym row ∙ sym c.bit.ensures in
     elim c.if-bit.branch [
-      | then-bit w ↦ voted_in inv (omega (arith, pre.0)) (omega arith) (bit ∙ w.if-bit.true) w.number_at-number.ensures.0 (w.work-is ∙ w.put_number.ensures)
+      | then-bit w ↦ voted_in inv (omega (arith, pre.0)) (omega arith) (bit ∙ w.if-bit.true) w.number_at-number.ensures.0
+          (w.work-is ∙ w.put_number.ensures)
       | else-bit w ↦ voted_out inv (bit ∙ w.if-bit.false) w.work-is
     ]
 

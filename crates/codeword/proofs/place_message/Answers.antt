@@ -63,19 +63,23 @@ loop-j-preserved c =
     let row : ℕ = row_of a now.work now.j in
     let number : c.number_at.result ≡ row = c.number_at.ensures.0 in
     elim c.if-k-number_at.branch [
-      | then-k-number_at w ↦ let t : is_message a now.work now.j ≡ true = le-leb a.checks row (omega (arith, w.if-k-number_at.true, number)) in (
-        omega arith,
-        omega (arith, w.m-is),
-        elim w.if-m-net.branch [
-          | then-m-net has ↦ placed_net pre s (omega arith) t has.if-m-net.true c.if-k-number_at.m c.if-k-number_at.v w.m-is (w.v-is ∙ has.v-is)
-          | else-m-net none ↦ placed_spare pre s (omega arith) t none.if-m-net.false c.if-k-number_at.m c.if-k-number_at.v w.m-is (w.v-is ∙ none.v-is)
-        ],
-      )
-      | else-k-number_at w ↦ let t : is_message a now.work now.j ≡ false = lt-leb a.checks row (omega (arith, w.if-k-number_at.false, number)) in (
-        omega arith,
-        omega (arith, w.m-is, now.invariant.1),
-        placed_check pre s (omega arith) t c.if-k-number_at.m c.if-k-number_at.v w.m-is w.v-is,
-      )
+      | then-k-number_at w ↦ let t : is_message a now.work now.j ≡ true =
+          le-leb a.checks row (omega (arith, w.if-k-number_at.true, number)) in (
+            omega arith,
+            omega (arith, w.m-is),
+            elim w.if-m-net.branch [
+              | then-m-net has ↦ placed_net pre s (omega arith) t has.if-m-net.true c.if-k-number_at.m c.if-k-number_at.v w.m-is
+                  (w.v-is ∙ has.v-is)
+              | else-m-net none ↦ placed_spare pre s (omega arith) t none.if-m-net.false c.if-k-number_at.m c.if-k-number_at.v w.m-is
+                  (w.v-is ∙ none.v-is)
+            ],
+          )
+      | else-k-number_at w ↦ let t : is_message a now.work now.j ≡ false =
+          lt-leb a.checks row (omega (arith, w.if-k-number_at.false, number)) in (
+            omega arith,
+            omega (arith, w.m-is, now.invariant.1),
+            placed_check pre s (omega arith) t c.if-k-number_at.m c.if-k-number_at.v w.m-is w.v-is,
+          )
     ]
 
 pub shape_of-work : goal.shape_of-work

@@ -68,26 +68,29 @@ loop-j-preserved c =
     let number : c.number_at.result ≡ row = c.number_at.ensures.0 in
     let x : ℕ = get_or now.work (a.word + now.j) 0 in
     elim c.if-k-number_at.branch [
-      | then-k-number_at w ↦ let t : is_message a now.work now.j ≡ true = le-leb a.checks row (omega (arith, w.if-k-number_at.true, number)) in (
-        omega arith,
-        omega (arith, w.m-is, now.invariant.1),
-        elim w.if-m-net.branch [
-          | then-m-net net ↦ gathered_as (gathered_net laid s (omega arith) t net.if-m-net.true) (w.work-is ∙ net.work-is) (w.spare-is ∙ net.spare-is) w.m-is
-          | else-m-net+then-v-eq1 one ↦ gathered_as
-              (gathered_spare laid s (omega arith) t one.if-m-net.false true
-              (sym (ap (λ (b : Bool). now.spare || b) (eq-eqb (x % 2) 1 one.if-v-eq1.true) ∙ or-true now.spare)))
-              (w.work-is ∙ one.work-is) (w.spare-is ∙ one.spare-is) w.m-is
-          | else-m-net+else-v-eq1 none ↦ gathered_as
-              (gathered_spare laid s (omega arith) t none.if-m-net.false now.spare
-              (sym (ap (λ (b : Bool). now.spare || b) (ne_eqb (x % 2) 1 none.if-v-eq1.false) ∙ or-false now.spare)))
-              (w.work-is ∙ none.work-is) (w.spare-is ∙ none.spare-is) w.m-is
-        ],
-      )
-      | else-k-number_at w ↦ let t : is_message a now.work now.j ≡ false = lt-leb a.checks row (omega (arith, w.if-k-number_at.false, number)) in (
-        omega arith,
-        omega (arith, w.m-is, now.invariant.1),
-        gathered_as (gathered_check laid s (omega arith) t) w.work-is w.spare-is w.m-is,
-      )
+      | then-k-number_at w ↦ let t : is_message a now.work now.j ≡ true =
+          le-leb a.checks row (omega (arith, w.if-k-number_at.true, number)) in (
+            omega arith,
+            omega (arith, w.m-is, now.invariant.1),
+            elim w.if-m-net.branch [
+              | then-m-net net ↦ gathered_as (gathered_net laid s (omega arith) t net.if-m-net.true) (w.work-is ∙ net.work-is)
+                  (w.spare-is ∙ net.spare-is) w.m-is
+              | else-m-net+then-v-eq1 one ↦ gathered_as
+                  (gathered_spare laid s (omega arith) t one.if-m-net.false true
+                  (sym (ap (λ (b : Bool). now.spare || b) (eq-eqb (x % 2) 1 one.if-v-eq1.true) ∙ or-true now.spare)))
+                  (w.work-is ∙ one.work-is) (w.spare-is ∙ one.spare-is) w.m-is
+              | else-m-net+else-v-eq1 none ↦ gathered_as
+                  (gathered_spare laid s (omega arith) t none.if-m-net.false now.spare
+                  (sym (ap (λ (b : Bool). now.spare || b) (ne_eqb (x % 2) 1 none.if-v-eq1.false) ∙ or-false now.spare)))
+                  (w.work-is ∙ none.work-is) (w.spare-is ∙ none.spare-is) w.m-is
+            ],
+          )
+      | else-k-number_at w ↦ let t : is_message a now.work now.j ≡ false =
+          lt-leb a.checks row (omega (arith, w.if-k-number_at.false, number)) in (
+            omega arith,
+            omega (arith, w.m-is, now.invariant.1),
+            gathered_as (gathered_check laid s (omega arith) t) w.work-is w.spare-is w.m-is,
+          )
     ]
 
 pub shape_of-work : goal.shape_of-work

@@ -74,11 +74,13 @@ loop-c-preserved c =
     let rows : BitMatrix = dense_bits now.work a.stride in
     let odd : ℕ → ℕ = λ i. tally (dot (a.stride * 8) (rows i) (rows a.checks)) in
     elim c.if-row-k.branch [
-      | then-row-k+then-parity-eq1 w ↦ let check : is_message a now.work now.c ≡ false = lt-leb a.checks row (omega (arith, w.if-row-k.true, number)) in
+      | then-row-k+then-parity-eq1 w ↦ let check : is_message a now.work now.c ≡ false =
+          lt-leb a.checks row (omega (arith, w.if-row-k.true, number)) in
           let parity = w.parity.ensures ∙ ap odd number in
           let solved = solved_odd pre.0 s (omega arith) pre.1 pre.2 check parity w.if-parity-eq1.true w.turn.ensures in
           (omega arith, solved_as solved w.work-is)
-      | then-row-k+else-parity-eq1 w ↦ let check : is_message a now.work now.c ≡ false = lt-leb a.checks row (omega (arith, w.if-row-k.true, number)) in
+      | then-row-k+else-parity-eq1 w ↦ let check : is_message a now.work now.c ≡ false =
+          lt-leb a.checks row (omega (arith, w.if-row-k.true, number)) in
           let parity = w.parity.ensures ∙ ap odd number in
           let solved = solved_even pre.0 s (omega arith) pre.1 pre.2 check parity w.if-parity-eq1.false in
           (omega arith, solved_as solved w.work-is)

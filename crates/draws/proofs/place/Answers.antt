@@ -32,6 +32,7 @@ returns-then-whole-n c =
 
 pub returns-else-whole-n : goal.returns-else-whole-n
 returns-else-whole-n c = (
-  is-raw (goal.at.returns-else-whole-n c).After-nearest_single-whole ∙ sym (place_other c.args.d c.args.n (λ e. omega (arith, is-raw (goal.at.returns-else-whole-n c).After-nearest_single-whole))),
+  is-raw (goal.at.returns-else-whole-n c).After-nearest_single-whole
+      ∙ sym (place_other c.args.d c.args.n (λ e. omega (arith, is-raw (goal.at.returns-else-whole-n c).After-nearest_single-whole))),
   omega (arith, is-raw (goal.at.returns-else-whole-n c).After-nearest_single-whole, raw_le c.args.d c.args.n c.ranges.d.fits c.requires.1),
 )

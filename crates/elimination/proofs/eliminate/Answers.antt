@@ -12,7 +12,8 @@ use Rattle.elimination.specs.Reduced.{is_unmarked, is_free, ColumnCleared}
 use Rattle.elimination.proofs.Eliminated.{Eliminating, eliminating_start, eliminating_all, noted_before, message_step}
 use Rattle.elimination.proofs.Eliminated.{pivot_ends, check_step, marked_before}
 use Rattle.elimination.proofs.eliminate.Goals as goal
-use Rattle.elimination.proofs.eliminate.Goals.{After-clear_column, After-clear_column-arg-1, After-slice_known-2-1, After-work-1, At-loop-j, In-loop-j}
+use Rattle.elimination.proofs.eliminate.Goals.{After-clear_column, After-clear_column-arg-1, After-slice_known-2-1, After-work-1, At-loop-j}
+use Rattle.elimination.proofs.eliminate.Goals.{In-loop-j}
 
 -- ---- before the loop
 pub overflow_add-a : goal.overflow_add-a
@@ -61,8 +62,13 @@ own_behind turn =
 
 pub find_row-pivot-requires : goal.find_row-pivot-requires
 find_row-pivot-requires c =
-    let inv = c.loop-j.invariant in
-    (laid (goal.at.find_row-pivot-requires c).At-loop-j, inv.1, inv.2, omega (arith, (so_far (goal.at.find_row-pivot-requires c).At-loop-j).left))
+    let inv = c.loop-j.invariant in (
+      laid (goal.at.find_row-pivot-requires c).At-loop-j,
+      inv.1,
+      inv.2,
+      omega
+          (arith, (so_far (goal.at.find_row-pivot-requires c).At-loop-j).left),
+    )
 
 pub overflow_mul-j : goal.overflow_mul-j
 overflow_mul-j c =
@@ -82,8 +88,13 @@ put_number-requires c =
 -- ---- a turn that finds a row: the column is a check column
 pub clear_column-requires : goal.clear_column-requires
 clear_column-requires c =
-    let ends = pivot_ends c.requires (own_behind (goal.at.clear_column-requires c).In-loop-j) c.find_row-pivot.ensures (omega arith) in
-    (laid_as (laid (goal.at.clear_column-requires c).At-loop-j) (omega arith), omega arith, omega (arith, (so_far (goal.at.clear_column-requires c).At-loop-j).left), rw c.put_number.ensures ends)
+    let ends = pivot_ends c.requires (own_behind (goal.at.clear_column-requires c).In-loop-j) c.find_row-pivot.ensures (omega arith) in (
+      laid_as (laid (goal.at.clear_column-requires c).At-loop-j) (omega arith),
+      omega arith,
+      omega
+          (arith, (so_far (goal.at.clear_column-requires c).At-loop-j).left),
+      rw c.put_number.ensures ends,
+    )
 
 -- the row found, noted as the pivot row, is added to the rows that it is to be added to
 column-cleared : (c : After-clear_column)
@@ -107,10 +118,12 @@ first_unmarked-first-requires c =
     let inv = c.loop-j.invariant in
     let pre = c.requires in
     let column = column-cleared (goal.at.first_unmarked-first-requires c).After-clear_column in
-    let step = check_step pre (own_behind (goal.at.first_unmarked-first-requires c).In-loop-j) c.find_row-pivot.ensures (omega arith) column in (
+    let step =
+    check_step pre (own_behind (goal.at.first_unmarked-first-requires c).In-loop-j) c.find_row-pivot.ensures (omega arith) column in (
       laid_as pre step.changed.long,
       inv.1,
-      marked_before pre (own_behind (goal.at.first_unmarked-first-requires c).In-loop-j) c.find_row-pivot.ensures (omega arith) column inv.1 inv.2,
+      marked_before pre (own_behind (goal.at.first_unmarked-first-requires c).In-loop-j) c.find_row-pivot.ensures
+          (omega arith) column inv.1 inv.2,
     )
 
 pub loop-j-preserved-then-pivot-a : goal.loop-j-preserved-then-pivot-a
@@ -118,7 +131,8 @@ loop-j-preserved-then-pivot-a c =
     let a = c.args.a in
     let unmarked : ℕ → Bool = is_unmarked a (set c.clear_column.new.work (a.marks + c.find_row-pivot.result) 1) in
     let first = c.first_unmarked-first.ensures in (
-      λ entry l z. check_step l (behind (goal.at.loop-j-preserved-then-pivot-a c).In-loop-j entry l z) c.find_row-pivot.ensures (omega arith) (column-cleared (goal.at.loop-j-preserved-then-pivot-a c).After-clear_column),
+      λ entry l z. check_step l (behind (goal.at.loop-j-preserved-then-pivot-a c).In-loop-j entry l z) c.find_row-pivot.ensures
+          (omega arith) (column-cleared (goal.at.loop-j-preserved-then-pivot-a c).After-clear_column),
       omega (arith, first, lowest_to unmarked a.checks 0),
       λ i h. lowest_before unmarked a.checks 0 i (omega arith) (omega (arith, first)),
     )

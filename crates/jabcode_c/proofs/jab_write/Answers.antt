@@ -5,4 +5,7 @@ use Rattle.jabcode_c.proofs.jab_write.Goals as goal
 pub returns : goal.returns
 returns c =
     let a = c.args in
-    record { writes = writes_for a.params.now a.reserved.now a.message.now a.matrix.now a.work.now c.params_of.ensures c.write-a.ensures.writes }
+    record {
+      writes =
+          writes_for a.params.now a.reserved.now a.message.now a.matrix.now a.work.now c.params_of.ensures c.write-a.ensures.writes;
+    }

@@ -48,7 +48,9 @@ pub unmasked_in-requires : goal.unmasked_in-requires
 unmasked_in-requires c =
     let d = c.depth_of-depth in
     let b = c.bits_before in
-    let there = bits_there c.requires.0 b.result d.result b.ensures d.ensures.0 c.requires.1 (is_data_lem (goal.at.unmasked_in-requires c).In_default) in
+    let there =
+    bits_there c.requires.0 b.result d.result b.ensures d.ensures.0 c.requires.1
+    (is_data_lem (goal.at.unmasked_in-requires c).In_default) in
     (there, omega (arith, d.ensures.1))
 
 pub overflow_add-result : goal.overflow_add-result

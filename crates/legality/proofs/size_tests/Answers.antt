@@ -30,7 +30,8 @@ pub returns-in-Fault : goal.returns-in-Fault
 returns-in-Fault c =
     let a = c.args in
     ap Refused c.answered-in-Fault.ensures
-    ∙ sym (faulty a.p a.list.now (ranged (goal.at.returns-in-Fault c).Else-not-in_range) c.in-Fault.place (sym c.judge_list-verdict.ensures ∙ c.in-Fault.is))
+    ∙ sym (faulty a.p a.list.now (ranged (goal.at.returns-in-Fault c).Else-not-in_range) c.in-Fault.place
+    (sym c.judge_list-verdict.ensures ∙ c.in-Fault.is))
 
 pub sizes_of-s-requires : goal.sizes_of-s-requires
 sizes_of-s-requires c =
@@ -41,7 +42,8 @@ returns-then-s c =
     let a = c.args in
     let s = c.sizes_of-s in
     ap Refused c.answered-then-s.ensures
-    ∙ sym (too_small a.p a.list.now (ranged (goal.at.returns-then-s c).Else-not-in_range) (judged (goal.at.returns-then-s c).In_default) s.result s.ensures
+    ∙ sym (too_small a.p a.list.now (ranged (goal.at.returns-then-s c).Else-not-in_range)
+    (judged (goal.at.returns-then-s c).In_default) s.result s.ensures
     c.if-s.true)
 
 pub returns-then-s-gt4096 : goal.returns-then-s-gt4096
@@ -49,7 +51,8 @@ returns-then-s-gt4096 c =
     let a = c.args in
     let s = c.sizes_of-s in
     ap Refused c.answered-then-s-gt4096.ensures
-    ∙ sym (too_large a.p a.list.now (ranged (goal.at.returns-then-s-gt4096 c).Else-not-in_range) (judged (goal.at.returns-then-s-gt4096 c).In_default) s.result s.ensures
+    ∙ sym (too_large a.p a.list.now (ranged (goal.at.returns-then-s-gt4096 c).Else-not-in_range)
+    (judged (goal.at.returns-then-s-gt4096 c).In_default) s.result s.ensures
     c.if-s-gt4096.true)
 
 pub returns : goal.returns

@@ -11,7 +11,8 @@ abbrev pub invariant-loop-i : goal.invariant-loop-i
 invariant-loop-i l =
     (1 ≤ l.i)
     × (l.i ≤ length (cores_of l.version))
-    × Left (cores_after (drop 1 (cores_of l.version))) (cores_after (drop l.i (cores_of l.version))) l.initial.next l.initial.out l.next l.out
+    × Left (cores_after (drop 1 (cores_of l.version)))
+    (cores_after (drop l.i (cores_of l.version))) l.initial.next l.initial.out l.next l.out
 
 abbrev pub decreases-loop-i : goal.decreases-loop-i
 decreases-loop-i l = length (cores_of l.version) - l.i

@@ -41,8 +41,15 @@ put_cores_line-third-requires c =
 
 pub put_number_line-requires : goal.put_number_line-requires
 put_number_line-requires c =
-    let f = lines_fit c.args.version c.if-version-lt1.false c.if-version-gt32.false in
-    (omega (arith, (first-line (goal.at.put_number_line-requires c).After-put_number_line-second).place, c.put_cores_line-third.ensures.place), omega (arith, c.inner_patterns.ensures.1))
+    let f = lines_fit c.args.version c.if-version-lt1.false c.if-version-gt32.false in (
+      omega (
+        arith,
+        (first-line (goal.at.put_number_line-requires c).After-put_number_line-second).place,
+        c.put_cores_line-third.ensures.place,
+      ),
+      omega
+          (arith, c.inner_patterns.ensures.1),
+    )
 
 pub returns : goal.returns
 returns c =

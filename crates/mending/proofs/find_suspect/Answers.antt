@@ -9,7 +9,8 @@ use Rattle.syndrome.proofs.Marks.{mark_bits}
 use Rattle.mending.proofs.Counts.{suspect_by, passed_start, passed_next, passed_suspect, passed_unsuspected}
 use Rattle.mending.proofs.Counts.{balance_unsuspected, suspect_by_lem}
 use Rattle.mending.proofs.find_suspect.Goals as goal
-use Rattle.mending.proofs.find_suspect.Goals.{After-next_check-i-in-loop-i, else-a-number_at, else-work-a-eq1, then-a-number_at+then-i-a+else-met-unmet, then-work-a-eq1}
+use Rattle.mending.proofs.find_suspect.Goals.{After-next_check-i-in-loop-i, else-a-number_at, else-work-a-eq1}
+use Rattle.mending.proofs.find_suspect.Goals.{then-a-number_at+then-i-a+else-met-unmet, then-work-a-eq1}
 
 pub bits-init : goal.bits-init
 bits-init c =
@@ -71,8 +72,10 @@ loop-i-preserved c =
     let inside : c.loop-i.i < c.args.a.checks = omega (arith, passed.most) in
     let mark = mark_bits c.args.a c.args.work.now c.requires.1 c.loop-i.i inside in
     elim c.if-work-a-eq1.branch [
-      | then-work-a-eq1 w ↦ passed_next passed inside mark (omega (arith, w.if-work-a-eq1.true, w.unmet-is)) (omega (arith, w.if-work-a-eq1.true, w.met-is)) (next c)
-      | else-work-a-eq1 w ↦ passed_next passed inside mark (omega (arith, mark, w.if-work-a-eq1.false, w.unmet-is)) (omega (arith, mark, w.if-work-a-eq1.false, w.met-is)) (next c)
+      | then-work-a-eq1 w ↦ passed_next passed inside mark (omega (arith, w.if-work-a-eq1.true, w.unmet-is))
+          (omega (arith, w.if-work-a-eq1.true, w.met-is)) (next c)
+      | else-work-a-eq1 w ↦ passed_next passed inside mark (omega (arith, mark, w.if-work-a-eq1.false, w.unmet-is))
+          (omega (arith, mark, w.if-work-a-eq1.false, w.met-is)) (next c)
     ]
 
 pub bits-preserved : goal.bits-preserved
@@ -84,7 +87,8 @@ bits-preserved c =
     let f : ℕ → Bool = suspect_by a work in
     let not-here : f bits.j ≡ false =
     elim c.if-a-number_at.branch [
-      | then-a-number_at+then-i-a+else-met-unmet w ↦ passed_unsuspected w.loop-i.invariant (omega (arith, w.if-i-a)) (omega (arith, w.if-met-unmet))
+      | then-a-number_at+then-i-a+else-met-unmet w ↦ passed_unsuspected w.loop-i.invariant (omega (arith, w.if-i-a))
+          (omega (arith, w.if-met-unmet))
       | else-a-number_at w ↦ balance_unsuspected a work bits.j c.requires.2 (omega arith) (omega (arith, w, balance-is))
     ] in
     search_next f a.gross bits.j bits.invariant (omega arith) not-here

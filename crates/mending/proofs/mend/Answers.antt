@@ -35,8 +35,11 @@ run_rule-repairs-requires c =
 
 pub count_unmet-left-requires : goal.count_unmet-left-requires
 count_unmet-left-requires c =
-    let laid = c.requires.0 in
-    (laid_as laid (c.run_rule-repairs.ensures.changed.long ∙ (made (goal.at.count_unmet-left-requires c).After-weigh).changed.long), c.run_rule-repairs.ensures.marked)
+    let laid = c.requires.0 in (
+      laid_as laid
+          (c.run_rule-repairs.ensures.changed.long ∙ (made (goal.at.count_unmet-left-requires c).After-weigh).changed.long),
+      c.run_rule-repairs.ensures.marked,
+    )
 
 pub returns : goal.returns
 returns c =

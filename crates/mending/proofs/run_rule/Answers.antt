@@ -53,7 +53,8 @@ next : (c : After-put_number)
     × (unmet_count (checks_in a c.args.work.now) (word_in a c.put_number.new.xs)
     < unmet_count (checks_in a c.args.work.now) (word_in a c.loop-j.work))
 next c =
-    mended_next c.loop-j.invariant (turned (goal.at.After-put_number c).In-Turned).0 (turned (goal.at.After-put_number c).In-Turned).1 c.put_number.ensures
+    mended_next c.loop-j.invariant (turned (goal.at.After-put_number c).In-Turned).0
+    (turned (goal.at.After-put_number c).In-Turned).1 c.put_number.ensures
 
 pub overflow_mul-repairs : goal.overflow_mul-repairs
 overflow_mul-repairs c =
@@ -69,8 +70,15 @@ overflow_add-j c = omega (arith, inside (goal.at.overflow_add-j c).In-Turned)
 
 pub put_number-requires : goal.put_number-requires
 put_number-requires c =
-    let laid = c.loop-j.invariant.laid in
-    (omega (arith, room (goal.at.put_number-requires c).In-Turned, laid.repaired_end, (turned (goal.at.put_number-requires c).In-Turned).1.changed.long), omega (arith, inside (goal.at.put_number-requires c).In-Turned))
+    let laid = c.loop-j.invariant.laid in (
+      omega (
+        arith,
+        room (goal.at.put_number-requires c).In-Turned,
+        laid.repaired_end,
+        (turned (goal.at.put_number-requires c).In-Turned).1.changed.long,
+      ),
+      omega (arith, inside (goal.at.put_number-requires c).In-Turned),
+    )
 
 pub overflow_add-repairs : goal.overflow_add-repairs
 overflow_add-repairs c =

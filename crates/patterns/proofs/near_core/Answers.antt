@@ -54,7 +54,9 @@ pub loop-i-preserved : goal.loop-i-preserved
 loop-i-preserved c =
     let cs : List ℕ = take c.args.cores.len c.args.cores.at in
     let i : ℕ = c.loop-i.i in
-    let next = near_next cs c.args.x i (core_is (goal.at.loop-i-preserved c).After-is_near).0 (sym (found-is (goal.at.loop-i-preserved c).After-is_near) ∙ c.if-is_near.false) in
+    let next =
+    near_next cs c.args.x i (core_is (goal.at.loop-i-preserved c).After-is_near).0
+    (sym (found-is (goal.at.loop-i-preserved c).After-is_near) ∙ c.if-is_near.false) in
     (omega (arith, c.wide-n.ensures), c.loop-i.invariant.1 ∙ next)
 
 pub returns : goal.returns

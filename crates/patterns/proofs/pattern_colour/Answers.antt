@@ -39,13 +39,17 @@ pub returns-in_default-near_core : goal.returns-in_default-near_core
 returns-in_default-near_core c =
     let a = c.args in
     let apart = sym c.near_core-2.ensures ∙ c.in_default-near_core.is in
-    sym (row_apart a.p a.cores c.requires.0 a.x a.y c.in-Core.i c.in-Core.o (column-near (goal.at.returns-in_default-near_core c).In-Core) apart)
+    sym (row_apart a.p a.cores c.requires.0 a.x a.y c.in-Core.i c.in-Core.o
+    (column-near (goal.at.returns-in_default-near_core c).In-Core) apart)
 
 pub pattern_of-s-requires : goal.pattern_of-s-requires
 pattern_of-s-requires c =
     let a = c.args in
-    let across = number_across a.p a.cores c.requires.0 a.x c.in-Core.i c.in-Core.o (column-near (goal.at.pattern_of-s-requires c).In-Core) in
-    let down = number_down a.p a.cores c.requires.0 a.y c.in-Core-near_core.j c.in-Core-near_core.u (row_near (goal.at.pattern_of-s-requires c).In-Core-near_core) in
+    let across =
+    number_across a.p a.cores c.requires.0 a.x c.in-Core.i c.in-Core.o (column-near (goal.at.pattern_of-s-requires c).In-Core) in
+    let down =
+    number_down a.p a.cores c.requires.0 a.y c.in-Core-near_core.j c.in-Core-near_core.u
+    (row_near (goal.at.pattern_of-s-requires c).In-Core-near_core) in
     (across, down)
 
 pub returns : goal.returns
@@ -57,5 +61,6 @@ returns c =
     let pattern : c.pattern_of-s.result ≡ among a.cores.across.len a.cores.down.len =
     c.pattern_of-s.ensures ∙ ap₂ among across down in
     let colour =
-    both_near a.p a.cores c.requires.0 a.x a.y c.in-Core.i c.in-Core.o c.in-Core-near_core.j c.in-Core-near_core.u (column-near (goal.at.returns c).In-Core) (row_near (goal.at.returns c).In-Core-near_core) in
+    both_near a.p a.cores c.requires.0 a.x a.y c.in-Core.i c.in-Core.o c.in-Core-near_core.j c.in-Core-near_core.u
+    (column-near (goal.at.returns c).In-Core) (row_near (goal.at.returns c).In-Core-near_core) in
     c.colour_in.ensures ∙ ap (λ (s : Pattern). colour_in s c.in-Core.o c.in-Core-near_core.u) pattern ∙ sym colour

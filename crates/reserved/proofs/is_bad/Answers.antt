@@ -19,7 +19,9 @@ entry-is c colour e =
     bad_at_lem a.p a.list.now a.k column.result c.row_of-y.result colour column.ensures.0 c.row_of-y.ensures.0 e
 
 pub returns-then-is_outside : goal.returns-then-is_outside
-returns-then-is_outside c = sym (bad_outside _ _ _ _ _ _ (sym c.is_outside.ensures ∙ c.if-is_outside.true)) ∙ entry-is (goal.at.returns-then-is_outside c).After-row_of-y _ refl
+returns-then-is_outside c =
+    sym (bad_outside _ _ _ _ _ _ (sym c.is_outside.ensures ∙ c.if-is_outside.true))
+    ∙ entry-is (goal.at.returns-then-is_outside c).After-row_of-y _ refl
 
 -- whether the entry stands on a pattern
 pattern-is : (c : After-is_covered)

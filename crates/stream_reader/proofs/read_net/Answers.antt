@@ -7,7 +7,8 @@ use lib.Seq.{length-take-le}
 use Rattle.laws.proofs.Net.{up_to_le}
 use Rattle.stream_reader.proofs.Answer.{Counted, all_zero, bad_code_lem, no_room_lem, message_read}
 use Rattle.stream_reader.proofs.read_net.Goals as goal
-use Rattle.stream_reader.proofs.read_net.Goals.{After-read_stream-arg-1, After-read_stream-first, After-slice_known-1, After-up_to_last_one-end, Else-end-eq0}
+use Rattle.stream_reader.proofs.read_net.Goals.{After-read_stream-arg-1, After-read_stream-first, After-slice_known-1}
+use Rattle.stream_reader.proofs.read_net.Goals.{After-up_to_last_one-end, Else-end-eq0}
 
 -- the bits before the end mark are all there
 whole : (c : Else-end-eq0) → let u = c.up_to_last_one-end in
@@ -36,12 +37,15 @@ slice_bounds-read_stream-end c = whole c
 pub returns-then-first-ne0 : goal.returns-then-first-ne0
 returns-then-first-ne0 c =
     let a = c.args in
-    bad_code_lem a.net.now a.room a.message.now (passed (goal.at.returns-then-first-ne0 c).After-read_stream-first) c.if-first-ne0.true c.stream_refused-then-first-ne0.ensures
+    bad_code_lem a.net.now a.room a.message.now
+    (passed (goal.at.returns-then-first-ne0 c).After-read_stream-first) c.if-first-ne0.true c.stream_refused-then-first-ne0.ensures
 
 pub returns-then-room-first : goal.returns-then-room-first
 returns-then-room-first c =
     let a = c.args in
-    no_room_lem a.net.now a.room a.message.now (passed (goal.at.returns-then-room-first c).After-read_stream-first) c.if-first-ne0.false c.if-room-first.true c.stream_refused-then-room-first.ensures
+    no_room_lem a.net.now a.room a.message.now
+    (passed (goal.at.returns-then-room-first c).After-read_stream-first) c.if-first-ne0.false c.if-room-first.true
+    c.stream_refused-then-room-first.ensures
 
 pub slice_bounds-read_stream-end-4 : goal.slice_bounds-read_stream-end-4
 slice_bounds-read_stream-end-4 c =
@@ -50,6 +54,7 @@ slice_bounds-read_stream-end-4 c =
 pub returns : goal.returns
 returns c =
     let a = c.args in
-    message_read a.net.now a.room a.message.now (passed (goal.at.returns c).After-read_stream-first) c.if-first-ne0.false c.if-room-first.false
+    message_read a.net.now a.room a.message.now
+    (passed (goal.at.returns c).After-read_stream-first) c.if-first-ne0.false c.if-room-first.false
     c.read_stream-second.ensures
     c.stream_done.ensures

@@ -48,12 +48,14 @@ bits_value-v-requires c =
 
 pub shape_of-out-in_default : goal.shape_of-out-in_default
 shape_of-out-in_default c =
-    stored_kept (coded (goal.at.shape_of-out-in_default c).After-slice_known-in-loop-mode-1).piece ∙ stored_kept c.loop-mode.invariant.stored
+    stored_kept (coded (goal.at.shape_of-out-in_default c).After-slice_known-in-loop-mode-1).piece
+    ∙ stored_kept c.loop-mode.invariant.stored
 
 pub returns-in_default : goal.returns-in_default
 returns-in_default c =
     let switch-of = c.switch_of-answer in
-    stands_stop c.loop-mode.invariant (coded (goal.at.returns-in_default c).After-slice_known-in-loop-mode-1) switch-of.result switch-of.ensures
+    stands_stop c.loop-mode.invariant
+    (coded (goal.at.returns-in_default c).After-slice_known-in-loop-mode-1) switch-of.result switch-of.ensures
     c.in_default.not-Next c.mode_number.ensures
 
 pub loop-mode-smaller : goal.loop-mode-smaller
@@ -65,4 +67,5 @@ loop-mode-smaller c =
 pub loop-mode-preserved : goal.loop-mode-preserved
 loop-mode-preserved c =
     let switch-of = c.switch_of-answer in
-    stands_next c.loop-mode.invariant (coded (goal.at.loop-mode-preserved c).After-slice_known-in-loop-mode-1) c.in-Next.next c.in-Next.owed (sym switch-of.ensures ∙ c.in-Next.is)
+    stands_next c.loop-mode.invariant (coded (goal.at.loop-mode-preserved c).After-slice_known-in-loop-mode-1) c.in-Next.next c.in-Next.owed
+    (sym switch-of.ensures ∙ c.in-Next.is)

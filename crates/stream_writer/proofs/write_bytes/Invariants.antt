@@ -7,7 +7,8 @@ use Rattle.pieces.proofs.Pieces.{Left}
 use Rattle.stream_writer.proofs.write_bytes.Given as goal
 
 abbrev pub invariant-loop-i : goal.invariant-loop-i
-invariant-loop-i l = (l.i ≤ length l.bytes) × Left (byte_bits l.bytes) (byte_bits (drop l.i l.bytes)) l.initial.next l.initial.out l.next l.out
+invariant-loop-i l =
+    (l.i ≤ length l.bytes) × Left (byte_bits l.bytes) (byte_bits (drop l.i l.bytes)) l.initial.next l.initial.out l.next l.out
 
 abbrev pub decreases-loop-i : goal.decreases-loop-i
 decreases-loop-i l = length l.bytes - l.i

@@ -36,7 +36,8 @@ pub returns-then-take_message : goal.returns-then-take_message
 returns-then-take_message c =
     let a = c.args in (
       spare_one_lem a.s (word_in a.a a.work.now) a.c a.room a.message.now
-          (sym (spare_told c.requires.0 (taken (goal.at.returns-then-take_message c).After-take_message)) ∙ c.if-take_message.true) c.counted.ensures,
+          (sym (spare_told c.requires.0 (taken (goal.at.returns-then-take_message c).After-take_message)) ∙ c.if-take_message.true)
+          c.counted.ensures,
       (taken (goal.at.returns-then-take_message c).After-take_message).changed,
     )
 

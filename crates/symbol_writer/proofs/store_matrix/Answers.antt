@@ -24,7 +24,8 @@ sized : (c : After-areas_for-a)
     → let args = c.args in
     RoomFor args.s c.areas_for-a.result (length args.work.now)
 sized c =
-    legal_room c.args.p c.args.list.now (known (goal.at.After-areas_for-a c).Start).symbol (known (goal.at.After-areas_for-a c).Start).enough c.requires.1 c.areas_for-a.ensures
+    legal_room c.args.p c.args.list.now (known (goal.at.After-areas_for-a c).Start).symbol
+    (known (goal.at.After-areas_for-a c).Start).enough c.requires.1 c.areas_for-a.ensures
 
 -- the C bits lie in the buffer that the stages left
 inside : (c : After-place_bits)
@@ -59,8 +60,10 @@ slice_bounds-fill-end c =
 pub fill-requires : goal.fill-requires
 fill-requires c =
     let capacity = ap (λ (z : Sizes). z.capacity) c.requires.1 in
-    let long = length_lent c.place_bits.new.work c.areas_for-a.result.word c.args.s.capacity (inside (goal.at.fill-requires c).After-place_bits) in
-    sized_symbol c.args.p c.args.list.now (known (goal.at.fill-requires c).Start).symbol (long ∙ capacity) (known (goal.at.fill-requires c).Start).whole
+    let long =
+    length_lent c.place_bits.new.work c.areas_for-a.result.word c.args.s.capacity (inside (goal.at.fill-requires c).After-place_bits) in
+    sized_symbol c.args.p c.args.list.now (known (goal.at.fill-requires c).Start).symbol (long ∙ capacity)
+    (known (goal.at.fill-requires c).Start).whole
 
 pub returns : goal.returns
 returns c =
