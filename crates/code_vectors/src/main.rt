@@ -10,12 +10,11 @@ ghost use Rattle.std.specs.Prelude.{◌*◌, ◌≤◌, ◌<◌, ◌≡◌, leng
 ghost use Rattle.lent.specs.Work.{Laid, CodeSizes};
 
 use lent::Areas;
-use libc::STDOUT_FILENO;
+use std::io;
 use symbology::Sizes;
 
-fn print_line(n: usize) {
-    io::print_decimal(STDOUT_FILENO, n as u64);
-    io::write_all(STDOUT_FILENO, b"\n");
+fn print_line(rt: &impl Print, n: usize) -> io::Result<()> {
+    println!(rt; "{n}")
 }
 
 // The sizes of a primary symbol of side-version 1 with 8 colours, 24 entries, wc 3 and wr 9: 1,047 bits.
@@ -37,69 +36,66 @@ fn known_sizes() -> Sizes
 }
 
 // Prints the columns of a row of A.
-fn print_row(work: &[u8], a: Areas, row: usize)
+fn print_row(rt: &impl Print, work: &[u8], a: Areas, row: usize) -> io::Result<()>
     requires { Laid a (length work.now) × (row < a.checks) }
 {
-    let mut j = 0;
-    while j < a.gross {
+    for j in 0..a.gross {
         if dense::bit(work, a.stride, row, j) {
-            print_line(j);
+            print_line(rt, j)?;
         }
-        j += 1;
     }
+    Ok(())
 }
 
-fn print_rows(work: &mut [u8])
+fn print_rows(rt: &impl Print, work: &mut [u8]) -> io::Result<()>
     requires { length work.old ≡ 53964 }
 {
     let a = lent::areas_for(known_sizes());
     check_matrix::build(work, a, 116, 3, 9);
-    print_row(work, a, 0);
-    print_row(work, a, 116);
-    print_row(work, a, 232);
+    print_row(rt, work, a, 0)?;
+    print_row(rt, work, a, 116)?;
+    print_row(rt, work, a, 232)
 }
 
 // Prints the first n numbers of two bytes.
-fn print_numbers(work: &[u8], n: usize)
+fn print_numbers(rt: &impl Print, work: &[u8], n: usize) -> io::Result<()>
     requires { 2 * n ≤ length work.now }
 {
-    let mut i = 0;
-    while i < n {
-        print_line(lent::number_at(work, 2 * i));
-        i += 1;
+    for i in 0..n {
+        print_line(rt, lent::number_at(work, 2 * i))?;
     }
+    Ok(())
 }
 
 // Interleaves the numbers below 1,047, of which the first six are printed.
-fn print_interleaving(work: &mut [u8])
+fn print_interleaving(rt: &impl Print, work: &mut [u8]) -> io::Result<()>
     requires { length work.old ≡ 53964 }
 {
     lent::count_up(work, 0, 1047);
     shuffle::shuffle_numbers(work, 0, 1047, shuffle::INTERLEAVING_SEED);
-    print_numbers(work, 6);
+    print_numbers(rt, work, 6)
 }
 
-fn print_bytes(bytes: &[u8]) {
-    let mut i = 0;
-    while i < bytes.len() {
-        print_line(bytes[i] as usize);
-        i += 1;
+fn print_bytes(rt: &impl Print, bytes: &[u8]) -> io::Result<()> {
+    for b in bytes {
+        print_line(rt, usize::from(*b))?;
     }
+    Ok(())
 }
 
 // Interleaves ten bytes, and undoes it.
-fn print_ten() {
+fn print_ten(rt: &impl Print) -> io::Result<()> {
     let mut bytes: [u8; 10] = [0, 1, 2, 3, 4, 5, 6, 7, 8, 9];
     shuffle::shuffle(&mut bytes, shuffle::INTERLEAVING_SEED);
-    print_bytes(&bytes);
+    print_bytes(rt, &bytes)?;
     shuffle::unshuffle(&mut bytes, shuffle::INTERLEAVING_SEED);
-    print_bytes(&bytes);
+    print_bytes(rt, &bytes)
 }
 
-fn main() {
+fn main(rt: HostRuntime) -> io::Result<()> {
     let mut space = [0u8; 53964];
     let work: &mut [u8] = &mut space;
-    print_rows(work);
-    print_ten();
-    print_interleaving(work);
+    print_rows(&rt, work)?;
+    print_ten(&rt)?;
+    print_interleaving(&rt, work)
 }

@@ -23,10 +23,11 @@
 // its limit, or another wc or wr prints `bad case`. Of the input the first 655,360 bytes are read.
 #![tactic(auto)]
 
-ghost use Rattle.std.specs.Prelude.{◌≤◌, ◌≡◌, true, false, length, replicate};
+ghost use Rattle.std.specs.Prelude.{◌≤◌, ◌≡◌, true, false, length, replicate, IfOk};
 
 use calls::ReadAnswer;
-use libc::{STDIN_FILENO, STDOUT_FILENO};
+use std::io;
+use std::io::Read;
 use symbology::Params;
 
 // ---- numbers of a line
@@ -222,8 +223,8 @@ fn fill(bytes: &mut [u8])
 }
 
 fn all_are(bytes: &[u8], value: u8) -> bool
-    ensures bytes_value { result ≡ true → bytes.now ≡ replicate (length bytes.now) value }
-    ensures fact { result ≡ false → bytes.now ≡ replicate (length bytes.now) value → ⊥ }
+    ensures all_hold { result ≡ true → bytes.now ≡ replicate (length bytes.now) value }
+    ensures one_differs { result ≡ false → bytes.now ≡ replicate (length bytes.now) value → ⊥ }
 {
     let mut i = 0;
     while i < bytes.len() {
@@ -246,8 +247,8 @@ fn fill_numbers(numbers: &mut [u16])
 }
 
 fn all_filled(numbers: &[u16]) -> bool
-    ensures numbers_value { result ≡ true → numbers.now ≡ replicate (length numbers.now) 42405 }
-    ensures fact { result ≡ false → numbers.now ≡ replicate (length numbers.now) 42405 → ⊥ }
+    ensures all_hold { result ≡ true → numbers.now ≡ replicate (length numbers.now) 42405 }
+    ensures one_differs { result ≡ false → numbers.now ≡ replicate (length numbers.now) 42405 → ⊥ }
 {
     let mut i = 0;
     while i < numbers.len() {
@@ -259,48 +260,41 @@ fn all_filled(numbers: &[u16]) -> bool
     true
 }
 
-fn print(text: &[u8]) {
-    io::write_all(STDOUT_FILENO, text);
+fn print_number(rt: &impl Print, n: usize) -> io::Result<()> {
+    print!(rt; " {n}")
 }
 
-fn print_number(n: usize) {
-    print(b" ");
-    io::print_decimal(STDOUT_FILENO, n as u64);
-}
-
-fn print_state(kept: bool) {
+fn print_state(rt: &impl Print, kept: bool) -> io::Result<()> {
     if kept {
-        return print(b" kept");
+        return rt.write_all(b" kept");
     }
-    print(b" changed")
+    rt.write_all(b" changed")
 }
 
-fn print_kept(bytes: &[u8]) {
-    print_state(all_are(bytes, 165))
+fn print_kept(rt: &impl Print, bytes: &[u8]) -> io::Result<()> {
+    print_state(rt, all_are(bytes, 165))
 }
 
-fn print_work(work: &[u8]) {
+fn print_work(rt: &impl Print, work: &[u8]) -> io::Result<()> {
     if all_are(work, 0) {
-        return print(b" zero");
+        return rt.write_all(b" zero");
     }
-    print_kept(work)
+    print_kept(rt, work)
 }
 
-fn print_bytes(bytes: &[u8]) {
-    let mut i = 0;
-    while i < bytes.len() {
-        print_number(wide(bytes[i]));
-        i += 1;
+fn print_bytes(rt: &impl Print, bytes: &[u8]) -> io::Result<()> {
+    for b in bytes {
+        print_number(rt, wide(*b))?;
     }
+    Ok(())
 }
 
 // The places of the repairs, in decimal.
-fn print_places(places: &[u16]) {
-    let mut i = 0;
-    while i < places.len() {
-        print_number(places[i] as usize);
-        i += 1;
+fn print_places(rt: &impl Print, places: &[u16]) -> io::Result<()> {
+    for place in places {
+        print_number(rt, usize::from(*place))?;
     }
+    Ok(())
 }
 
 // The digit of a module, and `?` where it has none.
@@ -312,37 +306,44 @@ fn digit(module: u8) -> u8 {
 }
 
 // The matrix goes out in one call, as its digits in its own place.
-fn print_modules(matrix: &mut [u8]) {
+fn print_modules(rt: &impl Print, matrix: &mut [u8]) -> io::Result<()> {
     let mut i = 0;
     while i < matrix.len() {
         matrix[i] = digit(matrix[i]);
         i += 1;
     }
-    print(b" ");
-    print(matrix);
+    rt.write_all(b" ")?;
+    rt.write_all(matrix)
 }
 
-fn print_matrix(number: u32, matrix: &mut [u8]) {
+fn print_matrix(rt: &impl Print, number: u32, matrix: &mut [u8]) -> io::Result<()> {
     if number != 0 {
-        return print_kept(matrix);
+        return print_kept(rt, matrix);
     }
-    print_modules(matrix)
+    print_modules(rt, matrix)
 }
 
 // ---- cases
 
-fn run_write(p: Params, list: &[u16], message: &[u8], matrix: &mut [u8], work: &mut [u8])
+fn run_write(
+    rt: &impl Print,
+    p: Params,
+    list: &[u16],
+    message: &[u8],
+    matrix: &mut [u8],
+    work: &mut [u8],
+) -> io::Result<()>
     requires { (p.wc ≡ 3) × (p.wr ≡ 9) × (length work.old ≤ 53964) }
 {
     fill(matrix);
     fill(work);
     let answer = jabcode::write(p, list, message, matrix, work);
-    print(b"write");
-    print_number(answer.number as usize);
-    print_number(answer.place);
-    print_work(work);
-    print_matrix(answer.number, matrix);
-    print(b"\n");
+    rt.write_all(b"write")?;
+    print_number(rt, answer.number as usize)?;
+    print_number(rt, answer.place)?;
+    print_work(rt, work)?;
+    print_matrix(rt, answer.number, matrix)?;
+    rt.write_all(b"\n")
 }
 
 // What a read answered, and how many places it stored.
@@ -379,14 +380,14 @@ fn read(
     }
 }
 
-fn print_read(answer: ReadAnswer) {
-    print(b"read");
-    print_number(answer.number as usize);
-    print_number(answer.place);
-    print_number(answer.length);
-    print_number(answer.repairs);
-    print_number(answer.unmet);
-    print_number(answer.stuffing);
+fn print_read(rt: &impl Print, answer: ReadAnswer) -> io::Result<()> {
+    rt.write_all(b"read")?;
+    print_number(rt, answer.number as usize)?;
+    print_number(rt, answer.place)?;
+    print_number(rt, answer.length)?;
+    print_number(rt, answer.repairs)?;
+    print_number(rt, answer.unmet)?;
+    print_number(rt, answer.stuffing)
 }
 
 // Fills what a read stores to.
@@ -397,17 +398,24 @@ fn fill_all(work: &mut [u8], message: &mut [u8], numbers: &mut [u16]) {
 }
 
 // Prints what a read left in the message buffer and in the numbers.
-fn print_left(message: &[u8], end: usize, numbers: &[u16], stored: usize)
+fn print_left(
+    rt: &impl Print,
+    message: &[u8],
+    end: usize,
+    numbers: &[u16],
+    stored: usize,
+) -> io::Result<()>
     requires { (end ≤ length message.now) × (stored ≤ length numbers.now) }
 {
-    print_kept(&message[end..]);
-    print_state(all_filled(&numbers[stored..]));
-    print_bytes(&message[0..end]);
-    print_places(&numbers[0..stored]);
+    print_kept(rt, &message[end..])?;
+    print_state(rt, all_filled(&numbers[stored..]))?;
+    print_bytes(rt, &message[0..end])?;
+    print_places(rt, &numbers[0..stored])
 }
 
 // A read and what it leaves. The numbers behind the slice for places are looked at as well.
 fn run_read(
+    rt: &impl Print,
     p: Params,
     list: &[u16],
     matrix: &[u8],
@@ -415,19 +423,20 @@ fn run_read(
     message: &mut [u8],
     numbers: &mut [u16],
     slots: usize,
-)
+) -> io::Result<()>
     requires { (p.wc ≡ 3) × (p.wr ≡ 9) × (length work.old ≤ 53964) × (slots ≤ length numbers.old) }
 {
     fill_all(work, message, numbers);
     let reading = read(p, list, matrix, work, message, numbers, slots);
-    print_read(reading.answer);
-    print_work(work);
-    print_left(message, reading.answer.length, numbers, reading.stored);
-    print(b"\n");
+    print_read(rt, reading.answer)?;
+    print_work(rt, work)?;
+    print_left(rt, message, reading.answer.length, numbers, reading.stored)?;
+    rt.write_all(b"\n")
 }
 
 // The case of a write whose message stands at `at`, with buffers of the lengths that its line gives.
 fn write_case(
+    rt: &impl Print,
     line: &[u8],
     at: usize,
     p: Params,
@@ -435,18 +444,19 @@ fn write_case(
     matrix: &mut [u8],
     work: &mut [u8],
     message: &mut [u8],
-)
+) -> io::Result<()>
     requires { (p.wc ≡ 3) × (p.wr ≡ 9) × (length work.old ≤ 53964) }
 {
     let end = take_bytes(line, at, message);
     if end != line.len() + 1 {
-        return print(b"bad case\n");
+        return rt.write_all(b"bad case\n");
     }
-    run_write(p, list, message, matrix, work)
+    run_write(rt, p, list, message, matrix, work)
 }
 
 // The same of a read, whose matrix stands there.
 fn read_case(
+    rt: &impl Print,
     line: &[u8],
     at: usize,
     p: Params,
@@ -456,18 +466,19 @@ fn read_case(
     message: &mut [u8],
     numbers: &mut [u16],
     slots: usize,
-)
+) -> io::Result<()>
     requires { (p.wc ≡ 3) × (p.wr ≡ 9) × (length work.old ≤ 53964) × (slots ≤ length numbers.old) }
 {
     let end = take_bytes(line, at, matrix);
     if end != line.len() + 1 {
-        return print(b"bad case\n");
+        return rt.write_all(b"bad case\n");
     }
-    run_read(p, list, matrix, work, message, numbers, slots)
+    run_read(rt, p, list, matrix, work, message, numbers, slots)
 }
 
 // The line of a write, from the lengths behind the list on.
 fn write_line(
+    rt: &impl Print,
     line: &[u8],
     at: usize,
     p: Params,
@@ -475,15 +486,16 @@ fn write_line(
     matrix: &mut [u8],
     work: &mut [u8],
     message: &mut [u8],
-)
-    requires wc_value { (p.wc ≡ 3) × (p.wr ≡ 9) }
-    requires in_bounds { (4096 ≤ length matrix.old) × (53964 ≤ length work.old) × (1024 ≤ length message.old) }
+) -> io::Result<()>
+    requires code { (p.wc ≡ 3) × (p.wr ≡ 9) }
+    requires buffers { (4096 ≤ length matrix.old) × (53964 ≤ length work.old) × (1024 ≤ length message.old) }
 {
     let given = take_lengths(line, at, 4096, 53964, 1024);
     let m = given.first;
     let w = given.second;
     let n = given.third;
     write_case(
+        rt,
         line,
         given.next,
         p,
@@ -496,6 +508,7 @@ fn write_line(
 
 // The line of a read, from there on.
 fn read_line(
+    rt: &impl Print,
     line: &[u8],
     at: usize,
     p: Params,
@@ -504,9 +517,9 @@ fn read_line(
     work: &mut [u8],
     message: &mut [u8],
     numbers: &mut [u16],
-)
-    requires wc_value { (p.wc ≡ 3) × (p.wr ≡ 9) }
-    requires in_bounds { (4096 ≤ length matrix.old) × (53964 ≤ length work.old) × (1024 ≤ length message.old) × (1024 ≤ length numbers.old) }
+) -> io::Result<()>
+    requires code { (p.wc ≡ 3) × (p.wr ≡ 9) }
+    requires buffers { (4096 ≤ length matrix.old) × (53964 ≤ length work.old) × (1024 ≤ length message.old) × (1024 ≤ length numbers.old) }
 {
     let given = take_lengths(line, at, 53964, 1024, 1024);
     let modules = number(line, given.next, 4096);
@@ -514,6 +527,7 @@ fn read_line(
     let r = given.second;
     let m = modules.value as usize;
     read_case(
+        rt,
         line,
         modules.next,
         p,
@@ -535,6 +549,7 @@ fn is_comment(line: &[u8]) -> bool {
 
 // A case from its list on, whose first number is `call`.
 fn run_case(
+    rt: &impl Print,
     line: &[u8],
     call: u32,
     given: Front,
@@ -543,42 +558,43 @@ fn run_case(
     work: &mut [u8],
     message: &mut [u8],
     numbers: &mut [u16],
-)
-    requires wc_value { (given.p.wc ≡ 3) × (given.p.wr ≡ 9) × (given.entries ≤ 3100) }
-    requires in_bounds { (3100 ≤ length list.old) × (4096 ≤ length matrix.old) × (53964 ≤ length work.old) × (1024 ≤ length message.old) × (1024 ≤ length numbers.old) }
+) -> io::Result<()>
+    requires front { (given.p.wc ≡ 3) × (given.p.wr ≡ 9) × (given.entries ≤ 3100) }
+    requires buffers { (3100 ≤ length list.old) × (4096 ≤ length matrix.old) × (53964 ≤ length work.old) × (1024 ≤ length message.old) × (1024 ≤ length numbers.old) }
 {
     let p = given.p;
     let l = given.entries;
     let at = take_list(line, given.next, &mut list[0..l]);
     if call == 1 {
-        return read_line(line, at, p, &list[0..l], matrix, work, message, numbers);
+        return read_line(rt, line, at, p, &list[0..l], matrix, work, message, numbers);
     }
-    write_line(line, at, p, &list[0..l], matrix, work, message)
+    write_line(rt, line, at, p, &list[0..l], matrix, work, message)
 }
 
 fn run_line(
+    rt: &impl Print,
     line: &[u8],
     list: &mut [u16],
     matrix: &mut [u8],
     work: &mut [u8],
     message: &mut [u8],
     numbers: &mut [u16],
-)
+) -> io::Result<()>
     requires { (3100 ≤ length list.old) × (4096 ≤ length matrix.old) × (53964 ≤ length work.old) × (1024 ≤ length message.old) × (1024 ≤ length numbers.old) }
 {
     if is_comment(line) {
-        return;
+        return Ok(());
     }
     let call = number(line, 0, 1);
     let given = take_front(line, call.next);
     if given.p.wc != 3 {
-        return print(b"bad case\n");
+        return rt.write_all(b"bad case\n");
     }
     if given.p.wr != 9 {
-        return print(b"bad case\n");
+        return rt.write_all(b"bad case\n");
     }
     run_case(
-        line, call.value, given, list, matrix, work, message, numbers,
+        rt, line, call.value, given, list, matrix, work, message, numbers,
     )
 }
 
@@ -598,21 +614,23 @@ fn line_end(input: &[u8], from: usize) -> usize
 }
 
 fn run_lines(
+    rt: &impl Print,
     input: &[u8],
     list: &mut [u16],
     matrix: &mut [u8],
     work: &mut [u8],
     message: &mut [u8],
     numbers: &mut [u16],
-)
+) -> io::Result<()>
     requires { (3100 ≤ length list.old) × (4096 ≤ length matrix.old) × (53964 ≤ length work.old) × (1024 ≤ length message.old) × (1024 ≤ length numbers.old) }
 {
     let mut from = 0;
     while from < input.len() {
         let to = line_end(input, from);
-        run_line(&input[from..to], list, matrix, work, message, numbers);
+        run_line(rt, &input[from..to], list, matrix, work, message, numbers)?;
         from = to + 1;
     }
+    Ok(())
 }
 
 // 655,360 zeros, for the input.
@@ -622,20 +640,36 @@ fn input_buffer() -> [u8; 655360]
     [0; 655360]
 }
 
-fn main() {
+// Reads until the buffer is full or the input ends, and answers how many bytes came.
+fn read_full(input: &mut impl Read, buf: &mut [u8]) -> io::Result<usize>
+    ensures { IfOk result (λ n. n ≤ length buf.new) }
+{
+    let mut done = 0;
+    while done < buf.len() {
+        let n = input.read(&mut buf[done..])?;
+        if n == 0 {
+            break;
+        }
+        done += n;
+    }
+    Ok(done)
+}
+
+fn main(rt: HostRuntime) -> io::Result<()> {
     let mut input = input_buffer();
     let mut list = [0u16; 3100];
-    let mut matrix = io::buffer();
+    let mut matrix = [0u8; 4096];
     let mut work = [0u8; 53964];
     let mut message = [0u8; 1024];
     let mut numbers = [0u16; 1032];
-    let n = io::read_full(STDIN_FILENO, &mut input);
+    let n = read_full(&mut rt.stdin(), &mut input)?;
     run_lines(
+        &rt,
         &input[..n],
         &mut list,
         &mut matrix,
         &mut work,
         &mut message,
         &mut numbers,
-    );
+    )
 }

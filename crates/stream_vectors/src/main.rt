@@ -8,14 +8,14 @@
 // mark. No symbol is made, and no work buffer lent.
 #![tactic(auto)]
 
-ghost use Rattle.std.specs.Prelude.{◌+◌, ◌≤◌, ◌<◌, ◌≡◌, length};
+ghost use Rattle.std.specs.Prelude.{◌+◌, ◌≤◌, ◌<◌, ◌≡◌, length, IfOk};
 ghost use Rattle.symbology.specs.Stream.{stream_of};
 
-use libc::{STDIN_FILENO, STDOUT_FILENO};
+use std::io;
+use std::io::Read;
 
-fn print_number(n: usize) {
-    io::print_decimal(STDOUT_FILENO, n as u64);
-    io::write_all(STDOUT_FILENO, b" ");
+fn print_number(rt: &impl Print, n: usize) -> io::Result<()> {
+    print!(rt; "{n} ")
 }
 
 fn is_bit(digit: u8) -> bool {
@@ -42,46 +42,44 @@ fn gather(line: &[u8], bits: &mut [u8]) -> usize
     n
 }
 
-fn print_message(number: u32, message: &[u8]) {
-    print_number(number as usize);
-    print_number(message.len());
-    io::write_all(STDOUT_FILENO, message);
-    io::write_all(STDOUT_FILENO, b"\n");
+fn print_message(rt: &impl Print, number: u32, message: &[u8]) -> io::Result<()> {
+    print_number(rt, number as usize)?;
+    print_number(rt, message.len())?;
+    rt.write_all(message)?;
+    rt.write_all(b"\n")
 }
 
-fn read_line(line: &[u8], bits: &mut [u8], message: &mut [u8])
+fn read_line(rt: &impl Print, line: &[u8], bits: &mut [u8], message: &mut [u8]) -> io::Result<()>
     requires { length line.now ≤ length bits.old }
 {
     let n = gather(line, bits);
     let answer = stream_reader::read_net(&bits[..n], message.len(), message);
     let end = answer.length;
-    print_message(answer.number, &message[..end]);
+    print_message(rt, answer.number, &message[..end])
 }
 
-fn print_bits(bits: &[u8]) {
-    let mut i = 0;
-    while i < bits.len() {
-        let digit = [48 + bits[i] % 2];
-        io::write_all(STDOUT_FILENO, &digit);
-        i += 1;
+fn print_bits(rt: &impl Print, bits: &[u8]) -> io::Result<()> {
+    for bit in bits {
+        rt.write_all(&[48 + *bit % 2])?;
     }
+    Ok(())
 }
 
-fn print_test_6(message: &[u8], net: usize)
+fn print_test_6(rt: &impl Print, message: &[u8], net: usize) -> io::Result<()>
     requires { net ≤ 65536 }
 {
     if stream_writer::exceeds_net(message, net) {
-        return print_number(6);
+        return print_number(rt, 6);
     }
-    print_number(0)
+    print_number(rt, 0)
 }
 
-fn print_net(message: &[u8], net: &mut [u8])
+fn print_net(rt: &impl Print, message: &[u8], net: &mut [u8]) -> io::Result<()>
     requires { length (stream_of message.now) < length net.old }
 {
     stream_writer::write_net(message, net);
-    print_bits(net);
-    io::write_all(STDOUT_FILENO, b"\n");
+    print_bits(rt, net)?;
+    rt.write_all(b"\n")
 }
 
 // The length of a message's stream, which is at most 32 bits a byte.
@@ -92,29 +90,30 @@ fn stream_length(message: &[u8]) -> usize
     stream_writer::stream_length(message)
 }
 
-fn write_line(message: &[u8], bits: &mut [u8])
+fn write_line(rt: &impl Print, message: &[u8], bits: &mut [u8]) -> io::Result<()>
     requires { (length message.now ≤ 1024) × (length bits.old ≡ 65536) }
 {
     let n = stream_length(message);
-    print_number(n);
-    print_test_6(message, n);
-    print_test_6(message, n + 1);
+    print_number(rt, n)?;
+    print_test_6(rt, message, n)?;
+    print_test_6(rt, message, n + 1)?;
     let end = n + 4;
-    print_net(message, &mut bits[..end]);
+    print_net(rt, message, &mut bits[..end])
 }
 
-fn run_line(line: &[u8], bits: &mut [u8], message: &mut [u8])
+fn run_line(rt: &impl Print, line: &[u8], bits: &mut [u8], message: &mut [u8]) -> io::Result<()>
     requires { (length line.now ≤ 1024) × (length bits.old ≡ 65536) }
 {
     if line.len() < 2 {
-        return;
+        return Ok(());
     }
     if line[0] == b'r' {
-        return read_line(line, bits, message);
+        return read_line(rt, line, bits, message);
     }
     if line[0] == b'w' {
-        write_line(&line[2..], bits)
+        return write_line(rt, &line[2..], bits);
     }
+    Ok(())
 }
 
 // Where the line that starts at `from` ends, at most 1,024 bytes on.
@@ -135,21 +134,37 @@ fn line_end(input: &[u8], from: usize) -> usize
     to
 }
 
-fn run_lines(input: &[u8], bits: &mut [u8], message: &mut [u8])
+fn run_lines(rt: &impl Print, input: &[u8], bits: &mut [u8], message: &mut [u8]) -> io::Result<()>
     requires { length bits.old ≡ 65536 }
 {
     let mut from = 0;
     while from < input.len() {
         let to = line_end(input, from);
-        run_line(&input[from..to], bits, message);
+        run_line(rt, &input[from..to], bits, message)?;
         from = to + 1;
     }
+    Ok(())
 }
 
-fn main() {
-    let mut input = io::large_buffer();
-    let mut bits = io::large_buffer();
+// Reads until the buffer is full or the input ends, and answers how many bytes came.
+fn read_full(input: &mut impl Read, buf: &mut [u8]) -> io::Result<usize>
+    ensures { IfOk result (λ n. n ≤ length buf.new) }
+{
+    let mut done = 0;
+    while done < buf.len() {
+        let n = input.read(&mut buf[done..])?;
+        if n == 0 {
+            break;
+        }
+        done += n;
+    }
+    Ok(done)
+}
+
+fn main(rt: HostRuntime) -> io::Result<()> {
+    let mut input = [0u8; 65536];
+    let mut bits = [0u8; 65536];
     let mut message = [0u8; 64];
-    let n = io::read_full(STDIN_FILENO, &mut input);
-    run_lines(&input[..n], &mut bits, &mut message);
+    let n = read_full(&mut rt.stdin(), &mut input)?;
+    run_lines(&rt, &input[..n], &mut bits, &mut message)
 }

@@ -1,10 +1,9 @@
 -- `code_vectors::known_sizes` meets its contract: the sizes belong together, with wc 3. Assumes nothing.
 use mathlib.Core.Path.{refl}
 use native.Mathlib.Omega.{arith}
-use Rattle.code_vectors.proofs.known_sizes.Statement.{statement}
-use Rattle.code_vectors.proofs.known_sizes.Tie as tie
+use Rattle.code_vectors.proofs.known_sizes.Goals as goal
 
-returns : tie.Need-returns
+pub returns : goal.returns
 returns c = (
   record {
     wc = 3;
@@ -21,6 +20,3 @@ returns c = (
   refl,
   refl,
 )
-
-pub known-sizes-spec : {M : Type 1} → statement M
-known-sizes-spec = tie.close (tie.spec returns)

@@ -1,2 +1,0 @@
--- Lemmas of the code: buffers that hold one byte everywhere.
-mod Filled
