@@ -17,10 +17,12 @@
 // has 53,964 bytes, with which no greater C passes test 5.
 #![tactic(auto)]
 
-ghost use Rattle.std.specs.Prelude.{◌+◌, ◌≤◌, ◌<◌, ◌≡◌, cond, eqb, length};
+ghost use Rattle.std.specs.Prelude.{◌+◌, ◌≤◌, ◌<◌, ◌≡◌, IfOk, cond, eqb, length};
 
 use calls::ReadAnswer;
-use libc::{STDIN_FILENO, STDOUT_FILENO};
+use std::env::{Env, FillError};
+use std::io;
+use std::io::Read;
 use symbology::Params;
 
 // The greatest parameter.
@@ -61,10 +63,10 @@ fn decimal(text: &[u8]) -> u32 {
     n as u32
 }
 
-// The number that argument i writes, and `otherwise` where it is missing or empty.
-fn argument(i: usize, otherwise: u32) -> u32 {
+// The number that argument i writes, and `otherwise` where it is missing, empty or longer than 16 bytes.
+fn argument(rt: &impl Env, i: usize, otherwise: u32) -> u32 {
     let mut text = [0u8; 16];
-    let n = os::arg(i, &mut text);
+    let n = rt.arg(i, &mut text).unwrap_or(0);
     if n == 0 {
         return otherwise;
     }
@@ -80,20 +82,20 @@ fn by_colours(colours: u32, of_eight: u32, of_four: u32) -> u32 {
     of_eight
 }
 
-fn params() -> Params {
-    let colours = argument(5, 8);
+fn params(rt: &impl Env) -> Params {
+    let colours = argument(rt, 5, 8);
     Params {
-        kind: argument(2, 0),
-        horizontal: argument(3, 1),
-        vertical: argument(4, 1),
+        kind: argument(rt, 2, 0),
+        horizontal: argument(rt, 3, 1),
+        vertical: argument(rt, 4, 1),
         colours: colours,
-        black: argument(6, 0),
-        cyan: argument(7, by_colours(colours, 3, 1)),
-        yellow: argument(8, by_colours(colours, 6, 3)),
-        wc: argument(9, 3),
-        wr: argument(10, 9),
-        mask: argument(11, 0),
-        turn: argument(12, 0),
+        black: argument(rt, 6, 0),
+        cyan: argument(rt, 7, by_colours(colours, 3, 1)),
+        yellow: argument(rt, 8, by_colours(colours, 6, 3)),
+        wc: argument(rt, 9, 3),
+        wr: argument(rt, 10, 9),
+        mask: argument(rt, 11, 0),
+        turn: argument(rt, 12, 0),
     }
 }
 
@@ -189,7 +191,7 @@ fn short(n: u32) -> u16 {
     n as u16
 }
 
-fn take_numbers(list: &mut [u16], count: usize) -> usize
+fn take_numbers(rt: &impl Env, list: &mut [u16], count: usize) -> usize
     ensures { result ≤ length list.old }
 {
     let mut n = 0;
@@ -197,62 +199,82 @@ fn take_numbers(list: &mut [u16], count: usize) -> usize
         if count <= n {
             return n;
         }
-        list[n] = short(argument(LIST_AT + n, 65535));
+        list[n] = short(argument(rt, LIST_AT + n, 65535));
         n += 1;
     }
     n
 }
 
+// Whether there is an argument i.
+fn is_given(rt: &impl Env, i: usize) -> bool {
+    !matches!(rt.arg(i, &mut []), Err(FillError::NotPresent))
+}
+
+// How many arguments there are, the program's name among them.
+fn argument_count(rt: &impl Env) -> usize {
+    for i in 0..usize::MAX {
+        if !is_given(rt, i) {
+            return i;
+        }
+    }
+    usize::MAX
+}
+
 // Stores the reserved list and answers its length.
-fn take_list(p: Params, list: &mut [u16]) -> usize
+fn take_list(rt: &impl Env, p: Params, list: &mut [u16]) -> usize
     requires { 96 ≤ length list.old }
     ensures { result ≤ length list.old }
 {
-    let arguments = os::arg_count();
+    let arguments = argument_count(rt);
     if arguments < LIST_AT {
         return default_list(p, list);
     }
-    take_numbers(list, arguments - LIST_AT)
+    take_numbers(rt, list, arguments - LIST_AT)
 }
 
 // Prints numbers, each with a space behind it.
-fn print_numbers(numbers: &[usize]) {
+fn print_numbers(rt: &impl Print, numbers: &[usize]) -> io::Result<()> {
     let mut i = 0;
     while i < numbers.len() {
-        io::print_decimal(STDOUT_FILENO, numbers[i] as u64);
-        io::write_all(STDOUT_FILENO, b" ");
+        let number = numbers[i];
+        print!(rt; "{number} ")?;
         i += 1;
     }
+    Ok(())
 }
 
 // The same of the places of the repairs.
-fn print_places(places: &[u16]) {
+fn print_places(rt: &impl Print, places: &[u16]) -> io::Result<()> {
     let mut i = 0;
     while i < places.len() {
-        io::print_decimal(STDOUT_FILENO, places[i] as u64);
-        io::write_all(STDOUT_FILENO, b" ");
+        let place = places[i];
+        print!(rt; "{place} ")?;
         i += 1;
     }
+    Ok(())
 }
 
-fn end_line() {
-    io::write_all(STDOUT_FILENO, b"\n");
+fn end_line(rt: &impl Print) -> io::Result<()> {
+    rt.write_all(b"\n")
 }
 
-fn print_colours(p: Params) {
-    print_numbers(&[
-        p.colours as usize,
-        p.black as usize,
-        p.cyan as usize,
-        p.yellow as usize,
-    ]);
-    end_line();
+fn print_colours(rt: &impl Print, p: Params) -> io::Result<()> {
+    print_numbers(
+        rt,
+        &[
+            p.colours as usize,
+            p.black as usize,
+            p.cyan as usize,
+            p.yellow as usize,
+        ],
+    )?;
+    end_line(rt)
 }
 
 // Prints the refusal of a wc or wr beyond the limit.
-fn print_beyond() {
-    print_numbers(&[100, 0, 0, 0, 0, 0, 0, 0, 0, 0, 0, 0, 0]);
-    end_line();
+fn print_beyond(rt: &impl Print) -> io::Result<()> {
+    print_numbers(rt, &[100, 0, 0, 0, 0, 0, 0, 0, 0, 0, 0, 0, 0])?;
+    end_line(rt)
 }
 
 fn area(columns: usize, rows: usize) -> usize
@@ -263,23 +285,33 @@ fn area(columns: usize, rows: usize) -> usize
 }
 
 // Prints the numbers of an answer to so many bytes and modules, and of its symbol.
-fn print_answer(p: Params, list: &[u16], answer: ReadAnswer, bytes: usize, modules: usize) {
+fn print_answer(
+    rt: &impl Print,
+    p: Params,
+    list: &[u16],
+    answer: ReadAnswer,
+    bytes: usize,
+    modules: usize,
+) -> io::Result<()> {
     let sizes = jabcode::sizes(p, list);
-    print_numbers(&[
-        answer.number as usize,
-        answer.place,
-        bytes,
-        modules,
-        answer.repairs,
-        answer.unmet,
-        answer.stuffing,
-        sizes.columns,
-        sizes.rows,
-        sizes.capacity,
-        sizes.net,
-        sizes.work,
-        sizes.checks,
-    ]);
+    print_numbers(
+        rt,
+        &[
+            answer.number as usize,
+            answer.place,
+            bytes,
+            modules,
+            answer.repairs,
+            answer.unmet,
+            answer.stuffing,
+            sizes.columns,
+            sizes.rows,
+            sizes.capacity,
+            sizes.net,
+            sizes.work,
+            sizes.checks,
+        ],
+    )
 }
 
 fn as_digits(matrix: &mut [u8]) {
@@ -290,46 +322,68 @@ fn as_digits(matrix: &mut [u8]) {
     }
 }
 
-fn print_rows(digits: &[u8], columns: usize)
+fn print_rows(rt: &impl Print, digits: &[u8], columns: usize) -> io::Result<()>
     requires { (0 < columns) × (columns ≤ 145) }
 {
     let mut from = 0;
     while from < digits.len() {
         let left = digits.len() - from;
         if left < columns {
-            return;
+            return Ok(());
         }
         let to = from + columns;
-        io::write_all(STDOUT_FILENO, &digits[from..to]);
-        io::write_all(STDOUT_FILENO, b"\n");
+        rt.write_all(&digits[from..to])?;
+        rt.write_all(b"\n")?;
         from = to;
     }
+    Ok(())
 }
 
 // Writes a record into a matrix of the symbol's modules, and prints it or the refusal.
-fn write_record(p: Params, list: &[u16], record: &[u8], matrix: &mut [u8])
+fn write_record(
+    rt: &impl Print,
+    p: Params,
+    list: &[u16],
+    record: &[u8],
+    matrix: &mut [u8],
+) -> io::Result<()>
     requires { (p.wc ≡ 3) × (p.wr ≡ 9) }
 {
     let mut work = [0u8; 53964];
     let answer = jabcode::write(p, list, record, matrix, &mut work);
     if answer.number != 0 {
         let refusal = calls::refused(answer.number, answer.place);
-        print_answer(p, list, refusal, record.len(), matrix.len());
-        return end_line();
+        print_answer(rt, p, list, refusal, record.len(), matrix.len())?;
+        return end_line(rt);
     }
     as_digits(matrix);
-    print_rows(matrix, side(p.horizontal));
+    print_rows(rt, matrix, side(p.horizontal))
+}
+
+// Reads until the buffer is full or the input ends, and answers how many bytes were read.
+fn read_full(input: &mut impl Read, buffer: &mut [u8]) -> io::Result<usize>
+    ensures { IfOk result (λ n. n ≤ length buffer.new) }
+{
+    let mut done = 0;
+    while done < buffer.len() {
+        let n = input.read(&mut buffer[done..])?;
+        if n == 0 {
+            break;
+        }
+        done += n;
+    }
+    Ok(done)
 }
 
 // Writes a record. One that fills its buffer has no room in any symbol, whatever stands behind it.
-fn write_label(p: Params, list: &[u16])
+fn write_label(rt: &impl Print, input: &mut impl Read, p: Params, list: &[u16]) -> io::Result<()>
     requires { (p.wc ≡ 3) × (p.wr ≡ 9) }
 {
-    let mut record = io::large_buffer();
-    let mut matrix = io::large_buffer();
-    let n = io::read_full(STDIN_FILENO, &mut record);
+    let mut record = [0u8; 65536];
+    let mut matrix = [0u8; 65536];
+    let n = read_full(input, &mut record)?;
     let modules = area(side(p.horizontal), side(p.vertical));
-    write_record(p, list, &record[..n], &mut matrix[..modules]);
+    write_record(rt, p, list, &record[..n], &mut matrix[..modules])
 }
 
 fn is_blank(b: u8) -> bool {
@@ -384,22 +438,19 @@ fn put_modules(text: &[u8], matrix: &mut [u8], at: usize) -> usize
 
 // Stores the modules of standard input, read piece by piece to its end, and answers how many there are.
 // The buffer is longer than any matrix: a text that fills it is refused with 4.
-fn read_modules(matrix: &mut [u8]) -> usize
-    ensures { result ≤ length matrix.old }
+fn read_modules(input: &mut impl Read, matrix: &mut [u8]) -> io::Result<usize>
+    ensures { IfOk result (λ n. n ≤ length matrix.old) }
 {
-    let mut space = io::buffer();
+    let mut space = [0u8; 4096];
     let mut n = 0;
-    let mut turns: u64 = 0;
-    while turns < 0xffff_ffff_ffff_ffff {
-        let got = libc::read(STDIN_FILENO, &mut space);
-        let m = io::count(got, &space);
+    for _ in 0..u64::MAX {
+        let m = input.read(&mut space)?;
         if m == 0 {
             break;
         }
         n = put_modules(&space[..m], matrix, n);
-        turns += 1;
     }
-    n
+    Ok(n)
 }
 
 // How many places a read stored: one for each repair on 0, and none on a refusal.
@@ -415,14 +466,14 @@ fn stored_places(answer: ReadAnswer) -> usize
 // Reads a text and prints the answer, the places of the repairs and the message. The message fits: it has no
 // more bytes than the symbol net bits, and those are fewer than 4,096. So do the places: a symbol of C at most
 // 1,047 has at most 348 checks, and there are no more repairs.
-fn read_label(p: Params, list: &[u16])
+fn read_label(rt: &impl Print, input: &mut impl Read, p: Params, list: &[u16]) -> io::Result<()>
     requires { (p.wc ≡ 3) × (p.wr ≡ 9) }
 {
-    let mut matrix = io::large_buffer();
+    let mut matrix = [0u8; 65536];
     let mut work = [0u8; 53964];
-    let mut message = io::buffer();
+    let mut message = [0u8; 4096];
     let mut places = [0u16; 348];
-    let modules = read_modules(&mut matrix);
+    let modules = read_modules(input, &mut matrix)?;
     let answer = jabcode::read(
         p,
         list,
@@ -431,40 +482,40 @@ fn read_label(p: Params, list: &[u16])
         &mut message,
         &mut places,
     );
-    print_answer(p, list, answer, answer.length, modules);
+    print_answer(rt, p, list, answer, answer.length, modules)?;
     let stored = stored_places(answer);
-    print_places(&places[..stored]);
-    end_line();
+    print_places(rt, &places[..stored])?;
+    end_line(rt)?;
     let length = answer.length;
-    io::write_all(STDOUT_FILENO, &message[..length]);
+    rt.write_all(&message[..length])
 }
 
 // The first letter of the first argument, and that of `write` where there is none.
-fn mode() -> u8 {
+fn mode(rt: &impl Env) -> u8 {
     let mut text = [0u8; 16];
-    let n = os::arg(1, &mut text);
+    let n = rt.arg(1, &mut text).unwrap_or(0);
     if n == 0 {
         return b'w';
     }
     text[0]
 }
 
-fn main() {
-    let p = params();
+fn main(rt: HostRuntime) -> io::Result<()> {
+    let p = params(&rt);
     let mut list = [0u16; LIST_ROOM];
-    let n = take_list(p, &mut list);
-    let mode = mode();
+    let n = take_list(&rt, p, &mut list);
+    let mode = mode(&rt);
     if mode == b'c' {
-        return print_colours(p);
+        return print_colours(&rt, p);
     }
     if p.wc != 3 {
-        return print_beyond();
+        return print_beyond(&rt);
     }
     if p.wr != 9 {
-        return print_beyond();
+        return print_beyond(&rt);
     }
     if mode == b'r' {
-        return read_label(p, &list[..n]);
+        return read_label(&rt, &mut rt.stdin(), p, &list[..n]);
     }
-    write_label(p, &list[..n])
+    write_label(&rt, &mut rt.stdin(), p, &list[..n])
 }

@@ -7,9 +7,11 @@
 // zlib for each row of pixels, each in a chunk of its own.
 #![tactic(auto)]
 
-ghost use Rattle.std.specs.Prelude.{◌+◌, ◌*◌, ◌≤◌, ◌≡◌, length};
+ghost use Rattle.std.specs.Prelude.{◌+◌, ◌*◌, ◌≤◌, ◌≡◌, IfOk, length};
 
-use libc::{STDIN_FILENO, STDOUT_FILENO};
+use std::env::Env;
+use std::io;
+use std::io::Read;
 
 // Pixels along a module, and white modules on each side.
 const SCALE: usize = 8;
@@ -77,49 +79,58 @@ fn adler_bytes(adler: u32, bytes: &[u8]) -> u32 {
     sum
 }
 
-fn print_word(n: usize) {
+fn print_word(rt: &impl Print, n: usize) -> io::Result<()> {
     let bytes = word(n);
-    io::write_all(STDOUT_FILENO, &bytes);
+    rt.write_all(&bytes)
 }
 
-fn print_crc(crc: u32) {
-    print_word((MOST - crc) as usize);
+fn print_crc(rt: &impl Print, crc: u32) -> io::Result<()> {
+    print_word(rt, (MOST - crc) as usize)
 }
 
 // Prints a chunk, given its type and data.
-fn print_chunk(bytes: &[u8])
+fn print_chunk(rt: &impl Print, bytes: &[u8]) -> io::Result<()>
     requires { 4 ≤ length bytes.now }
 {
-    print_word(bytes.len() - 4);
-    io::write_all(STDOUT_FILENO, bytes);
-    print_crc(crc_bytes(MOST, bytes));
+    print_word(rt, bytes.len() - 4)?;
+    rt.write_all(bytes)?;
+    print_crc(rt, crc_bytes(MOST, bytes))
 }
 
 // Prints the chunk of the sizes: 8 bits a pixel, indexed colours, no interlace.
-fn print_sizes(width: usize, height: usize) {
+fn print_sizes(rt: &impl Print, width: usize, height: usize) -> io::Result<()> {
     let w = word(width);
     let h = word(height);
-    print_chunk(&[
-        b'I', b'H', b'D', b'R', w[0], w[1], w[2], w[3], h[0], h[1], h[2], h[3], 8, 3, 0, 0, 0,
-    ]);
+    print_chunk(
+        rt,
+        &[
+            b'I', b'H', b'D', b'R', w[0], w[1], w[2], w[3], h[0], h[1], h[2], h[3], 8, 3, 0, 0, 0,
+        ],
+    )
 }
 
 // Prints what stands in front of the pixels: signature, sizes, the colours of Table 3, and the head of the
 // zlib stream.
-fn print_front(width: usize, height: usize) {
-    io::write_all(STDOUT_FILENO, b"\x89PNG\r\n\x1a\n");
-    print_sizes(width, height);
-    print_chunk(b"PLTE\0\0\0\0\0\xff\0\xff\0\0\xff\xff\xff\0\0\xff\0\xff\xff\xff\0\xff\xff\xff");
-    print_chunk(b"IDAT\x78\x01");
+fn print_front(rt: &impl Print, width: usize, height: usize) -> io::Result<()> {
+    rt.write_all(b"\x89PNG\r\n\x1a\n")?;
+    print_sizes(rt, width, height)?;
+    print_chunk(
+        rt,
+        b"PLTE\0\0\0\0\0\xff\0\xff\0\0\xff\xff\xff\0\0\xff\0\xff\xff\xff\0\xff\xff\xff",
+    )?;
+    print_chunk(rt, b"IDAT\x78\x01")
 }
 
 // Prints what stands behind the pixels: an empty last block, the Adler-32, and the end.
-fn print_back(adler: u32) {
+fn print_back(rt: &impl Print, adler: u32) -> io::Result<()> {
     let a = word(adler as usize);
-    print_chunk(&[
-        b'I', b'D', b'A', b'T', 1, 0, 0, 255, 255, a[0], a[1], a[2], a[3],
-    ]);
-    print_chunk(b"IEND");
+    print_chunk(
+        rt,
+        &[
+            b'I', b'D', b'A', b'T', 1, 0, 0, 255, 255, a[0], a[1], a[2], a[3],
+        ],
+    )?;
+    print_chunk(rt, b"IEND")
 }
 
 // The colour of pixel x in a line of modules; white on both sides of it.
@@ -145,7 +156,7 @@ fn put_pixels(pixels: &mut [u8], line: &[u8], colours: &[u8; 8]) {
 }
 
 // Prints one row of pixels: a chunk of a stored block, whose bytes are the filter 0 and the pixels.
-fn print_row(pixels: &[u8])
+fn print_row(rt: &impl Print, pixels: &[u8]) -> io::Result<()>
     requires { length pixels.now ≤ 1224 }
 {
     let n = pixels.len() + 1;
@@ -163,41 +174,54 @@ fn print_row(pixels: &[u8])
         255 - high,
         0,
     ];
-    print_word(n + 5);
-    io::write_all(STDOUT_FILENO, &front);
-    io::write_all(STDOUT_FILENO, pixels);
-    print_crc(crc_bytes(crc_bytes(MOST, &front), pixels));
+    print_word(rt, n + 5)?;
+    rt.write_all(&front)?;
+    rt.write_all(pixels)?;
+    print_crc(rt, crc_bytes(crc_bytes(MOST, &front), pixels))
 }
 
 // Prints a line of modules and answers the Adler-32 with its bytes.
-fn print_line(line: &[u8], colours: &[u8; 8], pixels: &mut [u8], adler: u32) -> u32
+fn print_line(
+    rt: &impl Print,
+    line: &[u8],
+    colours: &[u8; 8],
+    pixels: &mut [u8],
+    adler: u32,
+) -> io::Result<u32>
     requires { length pixels.old ≤ 1224 }
 {
     put_pixels(pixels, line, colours);
     let mut sum = adler;
     let mut i = 0;
     while i < SCALE {
-        print_row(pixels);
+        print_row(rt, pixels)?;
         sum = adler_bytes(adler_byte(sum, 0), pixels);
         i += 1;
     }
-    sum
+    Ok(sum)
 }
 
-fn print_quiet(colours: &[u8; 8], pixels: &mut [u8], adler: u32) -> u32
+fn print_quiet(rt: &impl Print, colours: &[u8; 8], pixels: &mut [u8], adler: u32) -> io::Result<u32>
     requires { length pixels.old ≤ 1224 }
 {
     let mut sum = adler;
     let mut i = 0;
     while i < QUIET {
-        sum = print_line(b"", colours, pixels, sum);
+        sum = print_line(rt, b"", colours, pixels, sum)?;
         i += 1;
     }
-    sum
+    Ok(sum)
 }
 
 // Prints the lines of a text that are whole.
-fn print_lines(text: &[u8], columns: usize, colours: &[u8; 8], pixels: &mut [u8], adler: u32) -> u32
+fn print_lines(
+    rt: &impl Print,
+    text: &[u8],
+    columns: usize,
+    colours: &[u8; 8],
+    pixels: &mut [u8],
+    adler: u32,
+) -> io::Result<u32>
     requires { (columns ≤ 145) × (length pixels.old ≤ 1224) }
 {
     let mut sum = adler;
@@ -205,13 +229,13 @@ fn print_lines(text: &[u8], columns: usize, colours: &[u8; 8], pixels: &mut [u8]
     while from < text.len() {
         let left = text.len() - from;
         if left < columns {
-            return sum;
+            return Ok(sum);
         }
         let to = from + columns;
-        sum = print_line(&text[from..to], colours, pixels, sum);
+        sum = print_line(rt, &text[from..to], colours, pixels, sum)?;
         from = to + 1;
     }
-    sum
+    Ok(sum)
 }
 
 // The length of a text's first line.
@@ -226,9 +250,9 @@ fn line_length(text: &[u8]) -> usize {
     n
 }
 
-fn colour(i: usize, otherwise: u8) -> u8 {
+fn colour(rt: &impl Env, i: usize, otherwise: u8) -> u8 {
     let mut text = [0u8; 16];
-    let n = os::arg(i, &mut text);
+    let n = rt.arg(i, &mut text).unwrap_or(0);
     if n == 0 {
         return otherwise;
     }
@@ -244,43 +268,64 @@ fn side(modules: usize) -> usize
 }
 
 // Prints the pixels and what stands behind them.
-fn print_body(text: &[u8], columns: usize, pixels: &mut [u8])
+fn print_body(
+    rt: &(impl Print + Env),
+    text: &[u8],
+    columns: usize,
+    pixels: &mut [u8],
+) -> io::Result<()>
     requires { (columns ≤ 145) × (length pixels.old ≤ 1224) }
 {
     let colours = [
-        colour(1, 0),
-        colour(2, 1),
-        colour(3, 2),
-        colour(4, 3),
-        colour(5, 4),
-        colour(6, 5),
-        colour(7, 6),
-        colour(8, 7),
+        colour(rt, 1, 0),
+        colour(rt, 2, 1),
+        colour(rt, 3, 2),
+        colour(rt, 4, 3),
+        colour(rt, 5, 4),
+        colour(rt, 6, 5),
+        colour(rt, 7, 6),
+        colour(rt, 8, 7),
     ];
-    let above = print_quiet(&colours, pixels, 1);
-    let lines = print_lines(text, columns, &colours, pixels, above);
-    print_back(print_quiet(&colours, pixels, lines));
+    let above = print_quiet(rt, &colours, pixels, 1)?;
+    let lines = print_lines(rt, text, columns, &colours, pixels, above)?;
+    let below = print_quiet(rt, &colours, pixels, lines)?;
+    print_back(rt, below)
 }
 
-fn print_picture(text: &[u8], pixels: &mut [u8])
+fn print_picture(rt: &(impl Print + Env), text: &[u8], pixels: &mut [u8]) -> io::Result<()>
     requires { (length text.now ≤ 65536) × (length pixels.old ≡ 4096) }
 {
     let columns = line_length(text);
     if columns == 0 {
-        return;
+        return Ok(());
     }
     if 145 < columns {
-        return;
+        return Ok(());
     }
     let rows = (text.len() + 1) / (columns + 1);
     let width = side(columns);
-    print_front(width, side(rows));
-    print_body(text, columns, &mut pixels[..width]);
+    print_front(rt, width, side(rows))?;
+    print_body(rt, text, columns, &mut pixels[..width])
 }
 
-fn main() {
-    let mut space = io::large_buffer();
-    let mut pixels = io::buffer();
-    let n = io::read_full(STDIN_FILENO, &mut space);
-    print_picture(&space[..n], &mut pixels);
+// Reads until the buffer is full or the input ends, and answers how many bytes were read.
+fn read_full(input: &mut impl Read, buffer: &mut [u8]) -> io::Result<usize>
+    ensures { IfOk result (λ n. n ≤ length buffer.new) }
+{
+    let mut done = 0;
+    while done < buffer.len() {
+        let n = input.read(&mut buffer[done..])?;
+        if n == 0 {
+            break;
+        }
+        done += n;
+    }
+    Ok(done)
+}
+
+fn main(rt: HostRuntime) -> io::Result<()> {
+    let mut space = [0u8; 65536];
+    let mut pixels = [0u8; 4096];
+    let n = read_full(&mut rt.stdin(), &mut space)?;
+    print_picture(&rt, &space[..n], &mut pixels)
 }

@@ -1,0 +1,9 @@
+-- What falls: the bytes not taken in yet.
+use Rattle.std.proofs.Common.{◌-◌, ◌≤◌, length}
+use Rattle.label_picture.proofs.crc_bytes.Given as goal
+
+abbrev pub invariant-loop-i : goal.invariant-loop-i
+invariant-loop-i l = l.i ≤ length l.bytes
+
+abbrev pub decreases-loop-i : goal.decreases-loop-i
+decreases-loop-i l = length l.bytes - l.i

@@ -1,0 +1,9 @@
+-- What falls: the bytes not looked at yet.
+use Rattle.std.proofs.Common.{◌-◌, ◌≤◌, length}
+use Rattle.label_picture.proofs.line_length.Given as goal
+
+abbrev pub invariant-loop-n : goal.invariant-loop-n
+invariant-loop-n l = l.n ≤ length l.text
+
+abbrev pub decreases-loop-n : goal.decreases-loop-n
+decreases-loop-n l = length l.text - l.n
