@@ -1,4 +1,3 @@
-use Prim.Native.Nat.{◌-◌}
 use native.Mathlib.Omega.{arith}
 use Rattle.balances.proofs.Balances.{level_start, level_next, level_all}
 use Rattle.balances.proofs.level.Goals as goal

@@ -1,4 +1,3 @@
-use Prim.Native.Nat.{◌-◌}
 use native.Mathlib.Omega.{arith}
 use Rattle.lent.proofs.Work.{laid_as}
 use Rattle.checks.proofs.Next.{next_check}

@@ -1,8 +1,7 @@
 use Prim.Native.Nat.{ℕ, ◌+◌, ◌-◌, ◌%◌}
 use mathlib.Core.Path.{sym, ◌∙◌}
 use native.Mathlib.Omega.{arith}
-use lib.ListN.{length, length-set}
-use Rattle.symbology.specs.Bits.{bits}
+use lib.ListN.{length-set}
 use Rattle.bitfield.proofs.Digits.{bits_next, bits_none}
 use Rattle.bitfield.proofs.put_bits.Goals as goal
 

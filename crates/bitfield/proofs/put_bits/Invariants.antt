@@ -1,6 +1,6 @@
 -- `bitfield::put_bits` meets its contract. The invariant: storing the i bits that are left gives what storing all n of them gives, and the
 -- buffer keeps its length. What falls: i, the bits left. Assumes nothing.
-use Prim.Native.Nat.{◌-◌, ◌≤◌}
+use Prim.Native.Nat.{◌≤◌}
 use mathlib.Core.Path.{◌≡◌}
 use lib.ListN.{length}
 use lib.Seq.{sets}

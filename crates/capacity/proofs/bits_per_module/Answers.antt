@@ -1,4 +1,3 @@
-use Prim.Native.Nat.{◌-◌}
 use native.Mathlib.Omega.{arith}
 use Rattle.capacity.proofs.Depth.{depth_start, told_small, depth_next, depth_found, depth_none}
 use Rattle.capacity.proofs.bits_per_module.Goals as goal

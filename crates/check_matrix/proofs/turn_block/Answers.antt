@@ -1,4 +1,3 @@
-use Prim.Native.Nat.{◌-◌}
 use mathlib.Core.Path.{refl}
 use native.Mathlib.Omega.{arith}
 use Rattle.check_matrix.proofs.Turning.{turning_start, turning_row, turning_place, turning_next, turning_done}

@@ -12,7 +12,7 @@ use Rattle.elimination.specs.Reduced.{is_unmarked, is_free, ColumnCleared}
 use Rattle.elimination.proofs.Eliminated.{Eliminating, eliminating_start, eliminating_all, noted_before, message_step}
 use Rattle.elimination.proofs.Eliminated.{pivot_ends, check_step, marked_before}
 use Rattle.elimination.proofs.eliminate.Goals as goal
-use Rattle.elimination.proofs.eliminate.Goals.{After-clear_column, After-clear_column-arg-1, After-slice_known-2-1, After-work-1, At-loop-j}
+use Rattle.elimination.proofs.eliminate.Goals.{After-clear_column, At-loop-j}
 use Rattle.elimination.proofs.eliminate.Goals.{In-loop-j}
 
 -- ---- before the loop

@@ -1,7 +1,7 @@
 -- `elimination::eliminate` meets its contract. The invariant: the columns from j on are eliminated, and the rows before `first` have marks.
 -- It does not see the buffer at entry, as the marks are cleared before the loop; so it speaks of every buffer that the clearing makes the
 -- loop's first one. What falls: j, the columns left. Assumes nothing.
-use Prim.Native.Nat.{ℕ, ◌-◌, ◌+◌, ◌≤◌}
+use Prim.Native.Nat.{ℕ, ◌+◌, ◌≤◌}
 use mathlib.Core.List.{List}
 use lib.ListN.{length}
 use Rattle.lent.specs.Buffer.{Cleared}

@@ -1,8 +1,7 @@
-use Prim.Native.Nat.{◌-◌, ◌<◌}
+use Prim.Native.Nat.{◌<◌}
 use mathlib.Core.Path.{◌≡◌, ◌∙◌, sym, refl}
 use native.Mathlib.Omega.{arith}
 use Rattle.symbology.specs.Sides.{columns}
-use Rattle.symbology.specs.Placement.{rank}
 use Rattle.laws.proofs.Ranks.{rank_first}
 use Rattle.layout.proofs.Walk.{at_column}
 use Rattle.layout.proofs.Filled.{filled_start, filled_all}

@@ -1,9 +1,8 @@
-use Prim.Native.Nat.{◌-◌, ◌<◌}
+use Prim.Native.Nat.{◌<◌}
 use mathlib.Core.Path.{◌≡◌, ◌∙◌, sym, refl}
 use native.Mathlib.Numerals.{add-one}
 use native.Mathlib.Omega.{arith}
 use Rattle.symbology.specs.Sides.{rows}
-use Rattle.symbology.specs.Placement.{rank}
 use Rattle.laws.proofs.Ranks.{rank_column}
 use Rattle.layout.proofs.Walk.{moved}
 use Rattle.layout.proofs.Sampled.{sampled_next, sampled_column}

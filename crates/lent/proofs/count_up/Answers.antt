@@ -1,4 +1,3 @@
-use Prim.Native.Nat.{◌-◌}
 use native.Mathlib.Omega.{arith}
 use Rattle.lent.proofs.Counting.{counting_start, counting_next, counting_done}
 use Rattle.lent.proofs.count_up.Goals as goal

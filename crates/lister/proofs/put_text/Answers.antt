@@ -1,6 +1,5 @@
-use Prim.Native.Nat.{◌-◌}
 use native.Mathlib.Omega.{arith}
-use lib.ListN.{length, get_or, drop, drop_of_length-le}
+use lib.ListN.{get_or, drop_of_length-le}
 use Rattle.pieces.proofs.Pieces.{left_all, left_none, stored_byte, stored_kept}
 use Rattle.lister.proofs.Text.{text_next}
 use Rattle.lister.proofs.put_text.Goals as goal

@@ -1,7 +1,7 @@
-use Prim.Native.Nat.{◌≤◌, ◌<◌, ◌-◌}
+use Prim.Native.Nat.{◌≤◌, ◌<◌}
 use mathlib.Core.Path.{◌∙◌, refl}
 use native.Mathlib.Omega.{arith}
-use lib.ListN.{length, drop, drop_of_length-le}
+use lib.ListN.{length, drop_of_length-le}
 use Rattle.lister.specs.Scanning.{scanned_all}
 use Rattle.lister.proofs.Scanning.{scanned_next}
 use Rattle.lister.proofs.scan.Goals as goal

@@ -1,4 +1,3 @@
-use Prim.Native.Nat.{◌-◌}
 use native.Mathlib.Omega.{arith}
 use Rattle.shuffle.proofs.Backwards.{restoring_start, restoring_next, restoring_done}
 use Rattle.shuffle.proofs.unshuffle.Goals as goal

@@ -7,8 +7,8 @@ use lib.Seq.{length-take-le}
 use Rattle.laws.proofs.Net.{up_to_le}
 use Rattle.stream_reader.proofs.Answer.{Counted, all_zero, bad_code_lem, no_room_lem, message_read}
 use Rattle.stream_reader.proofs.read_net.Goals as goal
-use Rattle.stream_reader.proofs.read_net.Goals.{After-read_stream-arg-1, After-read_stream-first, After-slice_known-1}
-use Rattle.stream_reader.proofs.read_net.Goals.{After-up_to_last_one-end, Else-end-eq0}
+use Rattle.stream_reader.proofs.read_net.Goals.{After-read_stream-first}
+use Rattle.stream_reader.proofs.read_net.Goals.{Else-end-eq0}
 
 -- the bits before the end mark are all there
 whole : (c : Else-end-eq0) → let u = c.up_to_last_one-end in

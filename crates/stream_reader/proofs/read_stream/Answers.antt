@@ -1,9 +1,8 @@
-use Prim.Native.Nat.{◌-◌}
 use mathlib.Core.Path.{sym, ◌∙◌}
 use native.Mathlib.Omega.{arith}
 use Rattle.laws.proofs.Stream.{width_some, width_most}
 use Rattle.pieces.proofs.Pieces.{stored_kept}
-use Rattle.stream_reader.proofs.Reading.{Coded, stands_first, stands_short, stands_next, stands_stop, no_other}
+use Rattle.stream_reader.proofs.Reading.{Coded, stands_first, stands_short, stands_next, stands_stop}
 use Rattle.stream_reader.proofs.read_stream.Goals as goal
 use Rattle.stream_reader.proofs.read_stream.Goals.{After-slice_known-in-loop-mode-1}
 

@@ -1,4 +1,3 @@
-use Prim.Native.Nat.{◌-◌}
 use native.Mathlib.Omega.{arith}
 use Rattle.symbol_reader.proofs.Stuffing.{wrong_none, wrong_most, wrong_next, right_next, wrong_all}
 use Rattle.symbol_reader.proofs.wrong_stuffing.Goals as goal

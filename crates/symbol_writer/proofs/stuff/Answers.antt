@@ -1,6 +1,5 @@
-use Prim.Native.Nat.{◌-◌}
 use native.Mathlib.Omega.{arith}
-use lib.ListN.{length-set, length}
+use lib.ListN.{length-set}
 use Rattle.symbol_writer.proofs.Stuffing.{stuffing_first, stuffing_next, stuffing_all}
 use Rattle.symbol_writer.proofs.stuff.Goals as goal
 

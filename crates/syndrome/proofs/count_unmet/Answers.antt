@@ -1,4 +1,3 @@
-use Prim.Native.Nat.{◌-◌}
 use native.Mathlib.Omega.{arith}
 use Rattle.syndrome.proofs.Marks.{summed_start, summed_next, summed_all, mark_bits}
 use Rattle.syndrome.proofs.count_unmet.Goals as goal
