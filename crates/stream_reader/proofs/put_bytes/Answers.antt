@@ -1,7 +1,7 @@
 -- `stream_reader::put_bytes` meets its contract: pieces of one byte, one behind the other. Assumes nothing.
 use Prim.Native.Nat.{◌+◌}
 use mathlib.Core.Path.{sym}
-use mathlib.Core.List.{◌∷◌}
+use mathlib.Core.List.{◌∷◌, []}
 use native.Mathlib.Omega.{arith}
 use lib.Seq.{take_all}
 use Rattle.pieces.specs.Pieces.{StoredAt}

@@ -1,5 +1,6 @@
 -- `tables::core_row` meets its contract: the constant is Table 2, mapped to padded rows, and past it there is no row.
 -- Assumes nothing.
+use mathlib.Core.List.{[]}
 use Prim.Native.Nat.{ℕ}
 use mathlib.Core.Path.{◌∙◌, ap}
 use native.Mathlib.Omega.{arith}
