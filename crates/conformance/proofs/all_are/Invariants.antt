@@ -1,4 +1,5 @@
--- The places up to i hold the value.
+-- `conformance::all_are` meets its contract. The invariant: the places up to i hold the value. What falls: the places not looked at yet.
+-- Assumes nothing.
 use Prim.Native.Nat.{ℕ, ◌-◌, ◌<◌, ◌≤◌}
 use mathlib.Core.Path.{◌≡◌}
 use lib.ListN.{length, get_or}

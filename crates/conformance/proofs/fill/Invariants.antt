@@ -1,4 +1,5 @@
--- The places up to i hold 165.
+-- `conformance::fill` meets its contract. The invariant: the places up to i hold 165. What falls: the places not filled yet. Assumes
+-- nothing.
 use Prim.Native.Nat.{ℕ, ◌-◌, ◌<◌, ◌≤◌}
 use mathlib.Core.Path.{◌≡◌}
 use lib.ListN.{length, get_or}

@@ -1,4 +1,5 @@
--- The place lies from the line's start up to the end of the input.
+-- `conformance::line_end` meets its contract. The invariant: the place lies from the line's start up to the end of the input. What falls:
+-- the bytes of the input behind it. Assumes nothing.
 use Prim.Native.Nat.{◌-◌, ◌≤◌}
 use lib.ListN.{length}
 use Rattle.conformance.proofs.line_end.Given as goal

@@ -1,4 +1,5 @@
--- What is read so far is at most the limit, so that ten times that fits.
+-- `conformance::number` meets its contract. The invariant: what is read so far is at most the limit, so that ten times that fits. What
+-- falls: the bytes of the line not read yet. Assumes nothing.
 use Prim.Native.Nat.{◌-◌, ◌≤◌}
 use mathlib.Core.Path.{◌≡◌}
 use lib.ListN.{length}

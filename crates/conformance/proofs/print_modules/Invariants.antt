@@ -1,4 +1,5 @@
--- The next module lies in the matrix, or all are digits.
+-- `conformance::print_modules` is safe. The invariant: i is at most the number of the modules. What falls: the modules not made digits yet.
+-- Assumes nothing.
 use Prim.Native.Nat.{◌-◌, ◌≤◌}
 use lib.ListN.{length}
 use Rattle.conformance.proofs.print_modules.Given as goal

@@ -1,4 +1,5 @@
--- The five buffers are as long as a case may ask for.
+-- `conformance::run_lines` is safe: each line ends inside the input. The invariant: the five buffers are as long as a case may ask for.
+-- What falls: the bytes of the input from the next line on. Assumes nothing.
 use Prim.Native.Nat.{◌-◌, ◌≤◌}
 use lib.ListN.{length}
 use Rattle.conformance.proofs.run_lines.Given as goal

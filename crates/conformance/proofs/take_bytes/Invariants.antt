@@ -1,4 +1,5 @@
--- The next number is stored in its place, or all are.
+-- `conformance::take_bytes` is safe: a number of at most 255 fits in a byte. The invariant: i is at most the number of the bytes. What
+-- falls: the bytes not stored yet. Assumes nothing.
 use Prim.Native.Nat.{◌-◌, ◌≤◌}
 use lib.ListN.{length}
 use Rattle.conformance.proofs.take_bytes.Given as goal

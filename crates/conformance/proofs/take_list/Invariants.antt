@@ -1,4 +1,5 @@
--- The next number is stored in its place, or all are.
+-- `conformance::take_list` is safe: a number of at most 65,535 fits in an entry. The invariant: i is at most the list's length. What falls:
+-- the numbers not stored yet. Assumes nothing.
 use Prim.Native.Nat.{◌-◌, ◌≤◌}
 use lib.ListN.{length}
 use Rattle.conformance.proofs.take_list.Given as goal

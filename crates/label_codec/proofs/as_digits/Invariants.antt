@@ -1,4 +1,5 @@
--- What falls: the modules not made digits yet.
+-- `label_codec::as_digits` is safe: a digit fits a byte. The invariant: i is at most the matrix's length. What falls: the modules not made
+-- digits yet. Assumes nothing.
 use Rattle.std.proofs.Common.{◌-◌, ◌≤◌, length}
 use Rattle.label_codec.proofs.as_digits.Given as goal
 

@@ -1,4 +1,4 @@
--- The number stays within 32 bits. What falls: the bytes not read yet.
+-- `label_codec::decimal` is safe. The invariant: the number stays within 32 bits. What falls: the bytes not read yet. Assumes nothing.
 use Rattle.std.proofs.Common.{◌-◌, ◌≤◌, length}
 use Rattle.label_codec.proofs.decimal.Given as goal
 

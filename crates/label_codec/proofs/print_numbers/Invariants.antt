@@ -1,4 +1,5 @@
--- What falls: the numbers not printed yet.
+-- `label_codec::print_numbers` is safe. The invariant: i is at most the number of the numbers. What falls: the numbers not printed yet.
+-- Assumes nothing.
 use Rattle.std.proofs.Common.{◌-◌, ◌≤◌, length}
 use Rattle.label_codec.proofs.print_numbers.Given as goal
 

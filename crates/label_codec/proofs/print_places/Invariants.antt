@@ -1,4 +1,5 @@
--- What falls: the places not printed yet.
+-- `label_codec::print_places` is safe. The invariant: i is at most the number of the places. What falls: the places not printed yet.
+-- Assumes nothing.
 use Rattle.std.proofs.Common.{◌-◌, ◌≤◌, length}
 use Rattle.label_codec.proofs.print_places.Given as goal
 

@@ -1,4 +1,5 @@
--- The next row starts inside the digits or at their end. What falls: the digits not printed yet.
+-- `label_codec::print_rows` is safe: a row ends inside the digits. The invariant: the next row starts inside the digits or at their end.
+-- What falls: the digits not printed yet. Assumes nothing.
 use Rattle.std.proofs.Common.{◌-◌, ◌≤◌, length}
 use Rattle.label_codec.proofs.print_rows.Given as goal
 

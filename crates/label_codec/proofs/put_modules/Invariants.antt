@@ -1,4 +1,5 @@
--- The modules stored never pass the matrix's buffer. What falls: the bytes of the text not read yet.
+-- `label_codec::put_modules` is safe. The invariant: the modules stored never pass the matrix's buffer. What falls: the bytes of the text
+-- not read yet. Assumes nothing.
 use Rattle.std.proofs.Common.{◌-◌, ◌≤◌, length}
 use Rattle.label_codec.proofs.put_modules.Given as goal
 

@@ -1,4 +1,5 @@
--- No more entries are stored, and no more columns passed, than colours are passed. What falls: the colours not passed yet.
+-- `label_codec::put_palette` is safe. The invariant: no more entries are stored, and no more columns passed, than colours are passed. What
+-- falls: the colours not passed yet. Assumes nothing.
 use Rattle.std.proofs.Common.{◌+◌, ◌*◌, ◌-◌, ◌≤◌}
 use Rattle.label_codec.proofs.put_palette.Given as goal
 

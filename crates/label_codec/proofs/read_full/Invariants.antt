@@ -1,4 +1,5 @@
--- What falls: the bytes of the buffer not filled yet.
+-- `label_codec::read_full` is safe. The invariant: what was read lies in the buffer. What falls: the bytes of the buffer not filled yet.
+-- Assumes nothing.
 use Rattle.std.proofs.Common.{◌-◌, ◌≤◌, length}
 use Rattle.label_codec.proofs.read_full.Given as goal
 

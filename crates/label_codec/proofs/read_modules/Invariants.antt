@@ -1,4 +1,5 @@
--- The modules stored never pass the matrix's buffer.
+-- `label_codec::read_modules` is safe. The invariant: the modules stored never pass the matrix's buffer. What falls: the turns left, which
+-- the `for` counts. Assumes nothing.
 use Rattle.std.proofs.Common.{◌≤◌, length}
 use Rattle.label_codec.proofs.read_modules.Given as goal
 

@@ -1,4 +1,5 @@
--- No more numbers are stored than the list's buffer holds. What falls: the places left in it.
+-- `label_codec::take_numbers` is safe. The invariant: no more numbers are stored than the list's buffer holds. What falls: the places left
+-- in it. Assumes nothing.
 use Rattle.std.proofs.Common.{◌-◌, ◌≤◌, length}
 use Rattle.label_codec.proofs.take_numbers.Given as goal
 

@@ -1,4 +1,5 @@
--- What falls: the bytes not added yet.
+-- `label_picture::adler_bytes` is safe. The invariant: i is at most the number of the bytes. What falls: the bytes not added yet. Assumes
+-- nothing.
 use Rattle.std.proofs.Common.{◌-◌, ◌≤◌, length}
 use Rattle.label_picture.proofs.adler_bytes.Given as goal
 

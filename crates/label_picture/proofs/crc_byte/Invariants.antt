@@ -1,4 +1,5 @@
--- What falls: the bits of the byte left to take in.
+-- `label_picture::crc_byte` is safe and ends. The invariant: i is at most 8. What falls: the bits of the byte left to take in. Assumes
+-- nothing.
 use Rattle.std.proofs.Common.{◌-◌, ◌≤◌}
 use Rattle.label_picture.proofs.crc_byte.Given as goal
 

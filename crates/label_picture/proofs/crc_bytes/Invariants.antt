@@ -1,4 +1,5 @@
--- What falls: the bytes not taken in yet.
+-- `label_picture::crc_bytes` is safe. The invariant: i is at most the number of the bytes. What falls: the bytes not taken in yet. Assumes
+-- nothing.
 use Rattle.std.proofs.Common.{◌-◌, ◌≤◌, length}
 use Rattle.label_picture.proofs.crc_bytes.Given as goal
 

@@ -1,4 +1,5 @@
--- What falls: the bytes not looked at yet.
+-- `label_picture::line_length` is safe. The invariant: n is at most the text's length. What falls: the bytes not looked at yet. Assumes
+-- nothing.
 use Rattle.std.proofs.Common.{◌-◌, ◌≤◌, length}
 use Rattle.label_picture.proofs.line_length.Given as goal
 

@@ -1,4 +1,5 @@
--- What falls: the rows of pixels of the line not printed yet.
+-- `label_picture::print_line` is safe and ends. The invariant: at most the 8 rows of pixels of a line are printed. What falls: the rows not
+-- printed yet. Assumes nothing.
 use Rattle.std.proofs.Common.{◌-◌, ◌≤◌}
 use Rattle.label_picture.proofs.print_line.Given as goal
 

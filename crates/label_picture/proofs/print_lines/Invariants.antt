@@ -1,4 +1,5 @@
--- The next line starts at most one byte behind the text. What falls: the bytes from there to one behind the text.
+-- `label_picture::print_lines` is safe: each line ends inside the text. The invariant: the next line starts at most one byte behind the
+-- text. What falls: the bytes from there to one behind the text. Assumes nothing.
 use Rattle.std.proofs.Common.{◌+◌, ◌-◌, ◌≤◌, length}
 use Rattle.label_picture.proofs.print_lines.Given as goal
 

@@ -1,4 +1,5 @@
--- What falls: the white lines not printed yet.
+-- `label_picture::print_quiet` is safe and ends. The invariant: at most the 4 white lines are printed. What falls: the white lines not
+-- printed yet. Assumes nothing.
 use Rattle.std.proofs.Common.{◌-◌, ◌≤◌}
 use Rattle.label_picture.proofs.print_quiet.Given as goal
 

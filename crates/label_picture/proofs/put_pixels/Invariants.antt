@@ -1,4 +1,5 @@
--- What falls: the pixels not stored yet.
+-- `label_picture::put_pixels` is safe. The invariant: x is at most the number of the pixels. What falls: the pixels not stored yet. Assumes
+-- nothing.
 use Rattle.std.proofs.Common.{◌-◌, ◌≤◌, length}
 use Rattle.label_picture.proofs.put_pixels.Given as goal
 

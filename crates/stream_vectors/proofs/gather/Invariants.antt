@@ -1,4 +1,5 @@
--- No more bits are stored than bytes of the line passed.
+-- `stream_vectors::gather` is safe. The invariant: no more bits are stored than bytes of the line passed. What falls: the bytes of the line
+-- not passed yet. Assumes nothing.
 use Prim.Native.Nat.{◌-◌, ◌≤◌}
 use lib.ListN.{length}
 use Rattle.stream_vectors.proofs.gather.Given as goal

@@ -1,4 +1,5 @@
--- The place reached is at most 1,024 bytes behind the start, and within the input.
+-- `stream_vectors::line_end` is safe. The invariant: the place passes neither the end of the input nor 1,024 bytes of the line. What falls:
+-- the bytes of the input behind it. Assumes nothing.
 use Prim.Native.Nat.{◌-◌, ◌+◌, ◌≤◌}
 use lib.ListN.{length}
 use Rattle.stream_vectors.proofs.line_end.Given as goal

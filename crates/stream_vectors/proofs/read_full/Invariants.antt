@@ -1,4 +1,5 @@
--- What was read lies in the buffer.
+-- `stream_vectors::read_full` is safe. The invariant: what was read lies in the buffer. What falls: the bytes of the buffer not filled yet.
+-- Assumes nothing.
 use Prim.Native.Nat.{◌-◌, ◌≤◌}
 use lib.ListN.{length}
 use Rattle.stream_vectors.proofs.read_full.Given as goal

@@ -1,4 +1,5 @@
--- The buffer for bits keeps its length.
+-- `stream_vectors::run_lines` is safe: each line ends inside the input. The invariant: the buffer for bits keeps its length. What falls:
+-- the bytes of the input from the next line on. Assumes nothing.
 use Prim.Native.Nat.{◌-◌}
 use mathlib.Core.Path.{◌≡◌}
 use lib.ListN.{length}
