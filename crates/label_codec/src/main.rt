@@ -17,7 +17,7 @@
 // has 53,964 bytes, with which no greater C passes test 5.
 #![tactic(auto)]
 
-ghost use Rattle.std.specs.Prelude.{◌+◌, ◌≤◌, ◌<◌, ◌≡◌, IfOk, cond, eqb, length};
+ghost use Rattle.std.specs.Prelude.{◌+◌, ◌≤◌, ◌<◌, ◌≡◌, IfOk, OnErr, cond, eqb, length};
 
 use calls::ReadAnswer;
 use std::env::{Env, FillError};
@@ -437,9 +437,11 @@ fn put_modules(text: &[u8], matrix: &mut [u8], at: usize) -> usize
 }
 
 // Stores the modules of standard input, read piece by piece to its end, and answers how many there are.
-// The buffer is longer than any matrix: a text that fills it is refused with 4.
+// The buffer is longer than any matrix: a text that fills it is refused with 4. Where a read fails, the buffer
+// may hold modules read before.
 fn read_modules(input: &mut impl Read, matrix: &mut [u8]) -> io::Result<usize>
-    ensures { IfOk result (λ n. n ≤ length matrix.old) }
+    ensures ok { IfOk result (λ n. n ≤ length matrix.old) }
+    ensures err { OnErr result (length matrix.new ≡ length matrix.old) }
 {
     let mut space = [0u8; 4096];
     let mut n = 0;
