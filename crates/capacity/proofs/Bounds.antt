@@ -30,15 +30,15 @@ pub products_most : (c wc wr : ℕ) → c ≤ 63075 → wc < wr → Products c w
 products_most c wc wr few less =
     let t : ℕ = c / wr in
     let gross_most : t * wr ≤ 63075 = omega (arith, div-mul-le_self c wr) in
-    let checks-less : t * wc ≤ t * wr = mul-le-mul_left t (omega arith) in
-    let net-less : t * (wr - wc) ≤ t * wr = mul-le-mul_left t (omega arith) in
-    let checks-most : t * wc ≤ 63075 = omega arith in
+    let checks_less : t * wc ≤ t * wr = mul-le-mul_left t (omega arith) in
+    let net_less : t * (wr - wc) ≤ t * wr = mul-le-mul_left t (omega arith) in
+    let checks_most : t * wc ≤ 63075 = omega arith in
     let bytes : (t * wr + 7) / 8 ≤ 7885 = omega arith in
     record {
       gross = gross_most;
-      checks = checks-most;
+      checks = checks_most;
       net = omega arith;
-      matrix = mul-le-mul checks-most bytes;
+      matrix = mul-le-mul checks_most bytes;
     }
 
 -- a symbol with parameters in range has at most 145 × 145 modules

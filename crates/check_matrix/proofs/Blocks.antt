@@ -43,9 +43,9 @@ module _ {a : Areas} {room : ℕ} (l : Laid a room) where
       → (i : ℕ) → i < a.checks → (j : ℕ) → j / 8 < a.stride → dense_bits after a.stride i j ≡ false
   unfolding dense_bits
   bits_cleared {before} {after} c i h j g =
-      let zero-there : get_or after (i * a.stride + j / 8) 0 ≡ 0 =
+      let zero_there : get_or after (i * a.stride + j / 8) 0 ≡ 0 =
       c.zero_in (i * a.stride + j / 8) (omega arith) (omega (arith, row_gap i a.checks a.stride h)) in
-      ap (λ (v : ℕ). eqb (v / 2 ^ (j % 8) % 2) 1) zero-there ∙ ap (λ (v : ℕ). eqb (v % 2) 1) (zero-div (2 ^ (j % 8)))
+      ap (λ (v : ℕ). eqb (v / 2 ^ (j % 8) % 2) 1) zero_there ∙ ap (λ (v : ℕ). eqb (v % 2) 1) (zero-div (2 ^ (j % 8)))
 
 -- ---- the rows of a block
 

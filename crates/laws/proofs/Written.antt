@@ -70,8 +70,8 @@ module _ (p : Params) (l stream : List ℕ) where
           let all : List ℕ = word_of ++ end_of in
           let placed : List ℕ = placed_bits (sizes_for p l) net_of in
           let long : length placed ≡ (sizes_for p l).capacity = length_shuffled 0 interleaving_seed all ∙ whole in
-          let end-bits : AllBits end_of = stuffing_bits ((sizes_for p l).capacity - (sizes_for p l).gross) in
-          let each : AllBits all = append_bits word_of end_of (symbol_codeword p l k net_of written_bits).are_bits end-bits in
+          let end_bits : AllBits end_of = stuffing_bits ((sizes_for p l).capacity - (sizes_for p l).gross) in
+          let each : AllBits all = append_bits word_of end_of (symbol_codeword p l k net_of written_bits).are_bits end_bits in
           let same : sampled p l (filled p l placed) ≡ placed =
           symbol_back p l k placed (shuffled_every 0 (λ (b : ℕ). b ≤ 1) interleaving_seed all each) long in
           let few : length all ≤ 4096 = omega (arith, whole, k.most) in

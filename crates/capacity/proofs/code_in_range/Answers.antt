@@ -35,7 +35,7 @@ pub returns : goal.returns
 unfolding range_tests all_hold
 returns c =
     let p = c.args.p in
-    let wc-in : within 3 8 p.wc ≡ true = passed c.is_within.ensures (ap not c.if-not-is_within.false) in
-    let wr-in : within 4 9 p.wr ≡ true = passed c.is_within-2.ensures (ap not c.if-not-is_within-2.false) in
-    let mask-in : within 0 7 p.mask ≡ true = passed c.is_within-3.ensures (ap not c.if-not-is_within-3.false) in
-    rw (wc-in, wr-in, lt-ltb p.wc p.wr c.if-p.false, mask-in, and-true) c.is_within-4.ensures
+    let wc_in : within 3 8 p.wc ≡ true = passed c.is_within.ensures (ap not c.if-not-is_within.false) in
+    let wr_in : within 4 9 p.wr ≡ true = passed c.is_within-2.ensures (ap not c.if-not-is_within-2.false) in
+    let mask_in : within 0 7 p.mask ≡ true = passed c.is_within-3.ensures (ap not c.if-not-is_within-3.false) in
+    rw (wc_in, wr_in, lt-ltb p.wc p.wr c.if-p.false, mask_in, and-true) c.is_within-4.ensures

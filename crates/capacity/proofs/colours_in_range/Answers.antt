@@ -49,10 +49,10 @@ pub returns : goal.returns
 unfolding range_tests all_hold
 returns c =
     let p = c.args.p in
-    let colours-in : (eqb p.colours 4 || eqb p.colours 8) ≡ true =
+    let colours_in : (eqb p.colours 4 || eqb p.colours 8) ≡ true =
     passed c.is_four_or_eight.ensures (ap not c.if-not-is_four_or_eight.false) in
     rw (
-      colours-in,
+      colours_in,
       lt-ltb p.black p.colours c.if-p.false,
       lt-ltb p.cyan p.colours c.if-p-2.false,
       lt-ltb p.yellow p.colours c.if-p-3.false,

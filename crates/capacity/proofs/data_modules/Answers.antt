@@ -36,8 +36,8 @@ overflow_cast-result c = omega (arith, all_most (goal.at.overflow_cast-result c)
 pub returns : goal.returns
 returns c =
     let args = c.args in
-    let h-is = c.wide-h.ensures in
-    let v-is = c.wide-v.ensures in
+    let h_is = c.wide-h.ensures in
+    let v_is = c.wide-v.ensures in
     let across = c.side_size in
     let down = c.side_size-2 in
     let inner = c.inner_patterns-inner in
@@ -46,7 +46,7 @@ returns c =
           across.result down.result inner.result corner.result c.saturating_sub.result
           across.ensures
           down.ensures
-          (inner.ensures.0 ∙ ap₂ inner_patterns h-is v-is)
+          (inner.ensures.0 ∙ ap₂ inner_patterns h_is v_is)
           corner.ensures.0
           (c.saturating_sub.ensures ∙ ap (λ (n : ℕ). n - args.listed) c.saturating_sub-unpatterned.ensures),
       omega (arith, all_most (goal.at.returns c).After-side_size-2),

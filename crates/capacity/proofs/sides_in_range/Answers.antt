@@ -21,6 +21,6 @@ pub returns : goal.returns
 unfolding range_tests all_hold
 returns c =
     let p = c.args.p in
-    let kind-in : within 0 1 p.kind ≡ true = passed c.is_within.ensures (ap not c.if-not-is_within.false) in
-    let horizontal-in : within 1 32 p.horizontal ≡ true = passed c.is_within-2.ensures (ap not c.if-not-is_within-2.false) in
-    rw (kind-in, horizontal-in, and-true) c.is_within-3.ensures
+    let kind_in : within 0 1 p.kind ≡ true = passed c.is_within.ensures (ap not c.if-not-is_within.false) in
+    let horizontal_in : within 1 32 p.horizontal ≡ true = passed c.is_within-2.ensures (ap not c.if-not-is_within-2.false) in
+    rw (kind_in, horizontal_in, and-true) c.is_within-3.ensures

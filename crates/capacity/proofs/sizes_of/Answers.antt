@@ -15,32 +15,32 @@ known : (c : Start) → InRange c.args.p
 known c = ranges c.args.p c.requires
 
 -- a module has few bits
-depth-most : (c : After-bits_per_module-depth) → c.bits_per_module-depth.result ≤ 3
-depth-most c =
+depth_most : (c : After-bits_per_module-depth) → c.bits_per_module-depth.result ≤ 3
+depth_most c =
     let p = c.args.p in
     omega (arith, c.bits_per_module-depth.ensures, depth_some p.colours (known (goal.at.After-bits_per_module-depth c).Start).colours_are)
 
 pub as_bits-bits-requires : goal.as_bits-bits-requires
-as_bits-bits-requires c = (c.data_modules.ensures.1, depth-most (goal.at.as_bits-bits-requires c).After-bits_per_module-depth)
+as_bits-bits-requires c = (c.data_modules.ensures.1, depth_most (goal.at.as_bits-bits-requires c).After-bits_per_module-depth)
 
 -- C is small
-c-most : (c : After-wide-c) → c.wide-c.result ≤ 63075
+c_most : (c : After-wide-c) → c.wide-c.result ≤ 63075
 unfolding as_bits
-c-most c =
+c_most c =
     let m = c.data_modules in
     let d = c.bits_per_module-depth in
-    let most = bits_most m.result.0 d.result m.ensures.1 (depth-most (goal.at.After-wide-c c).After-bits_per_module-depth) in
+    let most = bits_most m.result.0 d.result m.ensures.1 (depth_most (goal.at.After-wide-c c).After-bits_per_module-depth) in
     let same : c.wide-c.result ≡ m.result.0 * d.result = c.wide-c.ensures ∙ ap (λ (b : Bits). b.0) c.as_bits-bits.ensures in
     omega arith
 
 -- wc is less than wr
-wc-less : (c : After-wide-wc) → c.wide-wc.result < c.wide-wr.result
-wc-less c = omega (arith, known (goal.at.After-wide-wc c).Start, c.wide-wc.ensures, c.wide-wr.ensures)
+wc_less : (c : After-wide-wc) → c.wide-wc.result < c.wide-wr.result
+wc_less c = omega (arith, known (goal.at.After-wide-wc c).Start, c.wide-wc.ensures, c.wide-wr.ensures)
 
 -- the products of C, wr and wc are small
 products : (c : After-wide-wc) → Products c.wide-c.result c.wide-wc.result c.wide-wr.result
 products c =
-    products_most c.wide-c.result c.wide-wc.result c.wide-wr.result (c-most (goal.at.After-wide-wc c).After-wide-c) (wc-less c)
+    products_most c.wide-c.result c.wide-wc.result c.wide-wr.result (c_most (goal.at.After-wide-wc c).After-wide-c) (wc_less c)
 
 pub nonzero_div-block : goal.nonzero_div-block
 nonzero_div-block c = omega (arith, known (goal.at.nonzero_div-block c).Start, c.wide-wr.ensures)
@@ -52,7 +52,7 @@ pub overflow_mul-checks : goal.overflow_mul-checks
 overflow_mul-checks c = omega (arith, (products c).checks)
 
 pub overflow_sub-result : goal.overflow_sub-result
-overflow_sub-result c = omega (arith, wc-less (goal.at.overflow_sub-result c).After-wide-wc)
+overflow_sub-result c = omega (arith, wc_less (goal.at.overflow_sub-result c).After-wide-wc)
 
 pub overflow_mul-result : goal.overflow_mul-result
 overflow_mul-result c = omega (arith, (products (goal.at.overflow_mul-result c).After-wide-wc).net)
@@ -65,7 +65,7 @@ overflow_mul-result-2 c = omega (arith, (products (goal.at.overflow_mul-result-2
 
 pub overflow_add-result-2 : goal.overflow_add-result-2
 overflow_add-result-2 c =
-    omega (arith, (products (goal.at.overflow_add-result-2 c).After-wide-wc).matrix, c-most (goal.at.overflow_add-result-2 c).After-wide-c)
+    omega (arith, (products (goal.at.overflow_add-result-2 c).After-wide-wc).matrix, c_most (goal.at.overflow_add-result-2 c).After-wide-c)
 
 pub returns : goal.returns
 returns c =

@@ -24,8 +24,8 @@ size at-loop =
     sized args.t args.wc args.wr at-loop.requires
 
 -- the buffer is as long as at entry
-same-long : (at-loop : At-loop-block) → length at-loop.loop-block.work ≡ length at-loop.args.work.now
-same-long at-loop =
+same_long : (at-loop : At-loop-block) → length at-loop.loop-block.work ≡ length at-loop.args.work.now
+same_long at-loop =
     let built = at-loop.loop-block.invariant.1 in
     let counted = at-loop.count_up.ensures in
     let cleared = at-loop.clear.ensures in
@@ -34,7 +34,7 @@ same-long at-loop =
 -- ---- a turn
 pub shuffle_numbers-state-requires : goal.shuffle_numbers-state-requires
 shuffle_numbers-state-requires c =
-    (omega arith, omega (arith, same-long (goal.at.shuffle_numbers-state-requires c).At-loop-block))
+    (omega arith, omega (arith, same_long (goal.at.shuffle_numbers-state-requires c).At-loop-block))
 
 pub overflow_mul-block : goal.overflow_mul-block
 overflow_mul-block c =
@@ -45,7 +45,7 @@ pub turn_block-requires : goal.turn_block-requires
 turn_block-requires c =
     let mixed = c.shuffle_numbers-state.ensures.0 in
     let end = block_end (size (goal.at.turn_block-requires c).At-loop-block) c.loop-block.invariant.1 (omega arith) in (
-      rw (mixed.changed.long ∙ same-long (goal.at.turn_block-requires c).At-loop-block) c.requires.0,
+      rw (mixed.changed.long ∙ same_long (goal.at.turn_block-requires c).At-loop-block) c.requires.0,
       block_fits (size (goal.at.turn_block-requires c).At-loop-block) c.loop-block.invariant.1 _ _ _ mixed.numbers_are (omega (arith, end)),
     )
 
@@ -61,7 +61,7 @@ loop-block-preserved c =
 
 -- ---- behind the loop
 pub shape_of-work : goal.shape_of-work
-shape_of-work c = same-long (goal.at.shape_of-work c).At-loop-block
+shape_of-work c = same_long (goal.at.shape_of-work c).At-loop-block
 
 pub returns : goal.returns
 returns c =

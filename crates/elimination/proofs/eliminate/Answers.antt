@@ -39,9 +39,9 @@ laid : (at-loop : At-loop-j) → Laid at-loop.args.a (length at-loop.loop-j.work
 laid at-loop = laid_as at-loop.requires (so_far at-loop).changed.long
 
 -- a place of a mark is a `usize`
-marks-fit : (at-loop : At-loop-j)
+marks_fit : (at-loop : At-loop-j)
     → let a = at-loop.args.a in a.marks + a.checks < 18446744073709551616
-marks-fit at-loop = omega (arith, marks_inside at-loop.requires)
+marks_fit at-loop = omega (arith, marks_inside at-loop.requires)
 
 -- ---- a turn, which eliminates column j - 1
 -- the columns behind it are eliminated, from every buffer that the clearing makes the loop's first one
@@ -97,17 +97,17 @@ clear_column-requires c =
     )
 
 -- the row found, noted as the pivot row, is added to the rows that it is to be added to
-column-cleared : (c : After-clear_column)
+column_cleared : (c : After-clear_column)
     → let a = c.args.a in
     let j = c.loop-j.j - 1 in
     let pivot = c.find_row-pivot.result in
     ColumnCleared a pivot j (stored_number c.loop-j.work (a.numbers + 2 * j) pivot) c.clear_column.new.work
-column-cleared c =
+column_cleared c =
     rw c.put_number.ensures at c.clear_column.ensures
 
 pub overflow_add-work : goal.overflow_add-work
 overflow_add-work c =
-    omega (arith, marks-fit (goal.at.overflow_add-work c).At-loop-j)
+    omega (arith, marks_fit (goal.at.overflow_add-work c).At-loop-j)
 
 pub bounds-work-a : goal.bounds-work-a
 bounds-work-a c =
@@ -117,7 +117,7 @@ pub first_unmarked-first-requires : goal.first_unmarked-first-requires
 first_unmarked-first-requires c =
     let inv = c.loop-j.invariant in
     let pre = c.requires in
-    let column = column-cleared (goal.at.first_unmarked-first-requires c).After-clear_column in
+    let column = column_cleared (goal.at.first_unmarked-first-requires c).After-clear_column in
     let step =
     check_step pre (own_behind (goal.at.first_unmarked-first-requires c).In-loop-j) c.find_row-pivot.ensures (omega arith) column in (
       laid_as pre step.changed.long,
@@ -132,7 +132,7 @@ loop-j-preserved-then-pivot-a c =
     let unmarked : ℕ → Bool = is_unmarked a (set c.clear_column.new.work (a.marks + c.find_row-pivot.result) 1) in
     let first = c.first_unmarked-first.ensures in (
       λ entry l z. check_step l (behind (goal.at.loop-j-preserved-then-pivot-a c).In-loop-j entry l z) c.find_row-pivot.ensures
-          (omega arith) (column-cleared (goal.at.loop-j-preserved-then-pivot-a c).After-clear_column),
+          (omega arith) (column_cleared (goal.at.loop-j-preserved-then-pivot-a c).After-clear_column),
       omega (arith, first, lowest_to unmarked a.checks 0),
       λ i h. lowest_before unmarked a.checks 0 i (omega arith) (omega (arith, first)),
     )

@@ -28,8 +28,8 @@ fill_column-k-requires c =
 pub loop-c-preserved : goal.loop-c-preserved
 loop-c-preserved c =
     let columns_of = c.columns_of-width in
-    let fill-column = c.fill_column-k in
-    (omega (arith, columns_of.ensures.0), fill-column.ensures.0, fill-column.ensures.1)
+    let fill_column = c.fill_column-k in
+    (omega (arith, columns_of.ensures.0), fill_column.ensures.0, fill_column.ensures.1)
 
 pub shape_of-matrix : goal.shape_of-matrix
 shape_of-matrix c =

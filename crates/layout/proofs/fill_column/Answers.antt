@@ -26,11 +26,11 @@ fill_module-next-requires c =
 
 pub loop-r-preserved : goal.loop-r-preserved
 loop-r-preserved c =
-    let fill-module = c.fill_module-next in
+    let fill_module = c.fill_module-next in
     let loop = c.loop-r in
     let inside : loop.r < rows c.args.p = omega (arith, c.rows_of-height.ensures.0) in
     let filled = filled_next loop.invariant.2 c.requires.0.column inside in
-    (omega arith, fill-module.ensures.0, rw fill-module.ensures.1 filled)
+    (omega arith, fill_module.ensures.0, rw fill_module.ensures.1 filled)
 
 pub shape_of-matrix : goal.shape_of-matrix
 shape_of-matrix c = c.loop-r.invariant.2.whole ∙ sym c.requires.1.whole

@@ -28,8 +28,8 @@ sample_column-k-requires c =
 pub loop-c-preserved : goal.loop-c-preserved
 loop-c-preserved c =
     let columns_of = c.columns_of-width in
-    let sample-column = c.sample_column-k in
-    (omega (arith, columns_of.ensures.0), sample-column.ensures.0, sample-column.ensures.1)
+    let sample_column = c.sample_column-k in
+    (omega (arith, columns_of.ensures.0), sample_column.ensures.0, sample_column.ensures.1)
 
 pub shape_of-out : goal.shape_of-out
 shape_of-out c =

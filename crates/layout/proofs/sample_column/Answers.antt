@@ -26,13 +26,13 @@ sample_module-next-requires c =
 
 pub loop-r-preserved : goal.loop-r-preserved
 loop-r-preserved c =
-    let sample-module = c.sample_module-next in
+    let sample_module = c.sample_module-next in
     let loop = c.loop-r in
     let i = loop.invariant in
     let s = c.requires.0.symbol in
     let inside : loop.r < rows c.args.p = omega (arith, c.rows_of-height.ensures.0) in
     let sampled = sampled_next i.2 s.inside_range s.sound c.requires.0.column inside loop.next i.1 in
-    (omega arith, sample-module.ensures.0, rw sample-module.ensures.1 sampled)
+    (omega arith, sample_module.ensures.0, rw sample_module.ensures.1 sampled)
 
 pub shape_of-out : goal.shape_of-out
 shape_of-out c = c.loop-r.invariant.2.whole ∙ sym c.requires.1.whole

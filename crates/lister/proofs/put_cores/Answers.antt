@@ -14,8 +14,8 @@ use Rattle.lister.proofs.put_cores.Goals as goal
 use Rattle.lister.proofs.put_cores.Goals.{After-wide-core, After-wide-n}
 
 -- how many coordinates there are
-cores-are : (c : After-wide-n) → c.wide-n.result ≡ length (cores_of c.args.version)
-cores-are c = c.wide-n.ensures ∙ ap (λ (r : CoreRow). r.len) c.core_row-row.ensures
+cores_are : (c : After-wide-n) → c.wide-n.result ≡ length (cores_of c.args.version)
+cores_are c = c.wide-n.ensures ∙ ap (λ (r : CoreRow). r.len) c.core_row-row.ensures
 
 pub loop-i-init : goal.loop-i-init
 loop-i-init c =
@@ -29,7 +29,7 @@ bounds-row-i c =
     let v = c.args.version in
     let least = cores_least v c.requires.1 c.requires.2 in
     let most = cores_most v c.requires.1 c.requires.2 in
-    omega (arith, cores-are (goal.at.bounds-row-i c).After-wide-n)
+    omega (arith, cores_are (goal.at.bounds-row-i c).After-wide-n)
 
 -- the coordinate read is that of the table, and what is stored does not reach far
 core_is : (c : After-wide-core)
@@ -39,7 +39,7 @@ core_is : (c : After-wide-core)
 core_is c =
     let l = c.loop-i in
     let v = c.args.version in
-    let h : l.i < length (cores_of v) = omega (arith, cores-are (goal.at.After-wide-core c).After-wide-n) in
+    let h : l.i < length (cores_of v) = omega (arith, cores_are (goal.at.After-wide-core c).After-wide-n) in
     let read = c.wide-core.ensures ∙ ap (λ (r : CoreRow). get_or r.at l.i 0) c.core_row-row.ensures in (
       read ∙ core_at v c.requires.1 c.requires.2 l.i h,
       h,
@@ -66,12 +66,12 @@ loop-i-smaller c =
 
 pub loop-i-preserved : goal.loop-i-preserved
 loop-i-preserved c =
-    let put-decimal = c.put_decimal-next in
+    let put_decimal = c.put_decimal-next in
     let l = c.loop-i in
     let v = c.args.version in
     let k = core_is (goal.at.loop-i-preserved c).After-wide-core in
     let space = stored_byte l.next 32 c.put.ensures in
-    let next = cores_next (cores_of v) l.i c.wide-core.result k.1 k.0 l.invariant.2 space put-decimal.ensures in
+    let next = cores_next (cores_of v) l.i c.wide-core.result k.1 k.0 l.invariant.2 space put_decimal.ensures in
     (omega arith, omega (arith, k.1), next)
 
 pub returns : goal.returns
@@ -79,7 +79,7 @@ unfolding cores_after
 returns c =
     let l = c.loop-i in
     let v = c.args.version in
-    let e : length (cores_of v) ≤ l.i = omega (arith, cores-are (goal.at.returns c).After-wide-n) in
+    let e : length (cores_of v) ≤ l.i = omega (arith, cores_are (goal.at.returns c).After-wide-n) in
     left_none (ap cores_after (drop_of_length-le (cores_of v) e)) l.invariant.2
 
 pub shape_of-out : goal.shape_of-out

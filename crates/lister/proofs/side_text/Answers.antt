@@ -27,24 +27,24 @@ returns-then-version-gt32 c =
     record { value = stored.0; out_after = stored.1 }
 
 -- the first line is that of the side's size
-first-line : (c : After-put_number_line-second)
+first_line : (c : After-put_number_line-second)
     → let a = c.args in
     StoredAt (number_line (side_size a.version)) 0 a.out.now c.put_number_line-second.new.out c.put_number_line-second.result
-first-line c = same_piece (ap number_line c.side_size.ensures) c.put_number_line-second.ensures
+first_line c = same_piece (ap number_line c.side_size.ensures) c.put_number_line-second.ensures
 
 pub put_cores_line-third-requires : goal.put_cores_line-third-requires
 put_cores_line-third-requires c =
     let least = c.if-version-lt1.false in
     let most = c.if-version-gt32.false in
     let f = lines_fit c.args.version least most in
-    (omega (arith, (first-line (goal.at.put_cores_line-third-requires c).After-put_number_line-second).place), least, most)
+    (omega (arith, (first_line (goal.at.put_cores_line-third-requires c).After-put_number_line-second).place), least, most)
 
 pub put_number_line-requires : goal.put_number_line-requires
 put_number_line-requires c =
     let f = lines_fit c.args.version c.if-version-lt1.false c.if-version-gt32.false in (
       omega (
         arith,
-        (first-line (goal.at.put_number_line-requires c).After-put_number_line-second).place,
+        (first_line (goal.at.put_number_line-requires c).After-put_number_line-second).place,
         c.put_cores_line-third.ensures.place,
       ),
       omega
@@ -53,11 +53,11 @@ put_number_line-requires c =
 
 pub returns : goal.returns
 returns c =
-    let inner-patterns = c.inner_patterns in
+    let inner_patterns = c.inner_patterns in
     let v = c.args.version in
     let least = c.if-version-lt1.false in
     let most = c.if-version-gt32.false in
-    let third = same_piece (ap number_line inner-patterns.ensures.0) c.put_number_line.ensures in
-    let lines = joined (joined (first-line (goal.at.returns c).After-put_number_line-second) c.put_cores_line-third.ensures) third in
+    let third = same_piece (ap number_line inner_patterns.ensures.0) c.put_number_line.ensures in
+    let lines = joined (joined (first_line (goal.at.returns c).After-put_number_line-second) c.put_cores_line-third.ensures) third in
     let stored = from_start (same_piece (three_lines v least most) lines) (text_length v least most) in
     record { value = stored.0; out_after = stored.1 }

@@ -80,18 +80,18 @@ loop-i-preserved c =
 
 pub bits-preserved : goal.bits-preserved
 bits-preserved c =
-    let balance-is = c.number_at.ensures.0 in
+    let balance_is = c.number_at.ensures.0 in
     let a = c.args.a in
     let work = c.args.work.now in
     let bits = c.bits in
     let f : ℕ → Bool = suspect_by a work in
-    let not-here : f bits.j ≡ false =
+    let not_here : f bits.j ≡ false =
     elim c.if-a-number_at.branch [
       | then-a-number_at+then-i-a+else-met-unmet w ↦ passed_unsuspected w.loop-i.invariant (omega (arith, w.if-i-a))
           (omega (arith, w.if-met-unmet))
-      | else-a-number_at w ↦ balance_unsuspected a work bits.j c.requires.2 (omega arith) (omega (arith, w, balance-is))
+      | else-a-number_at w ↦ balance_unsuspected a work bits.j c.requires.2 (omega arith) (omega (arith, w, balance_is))
     ] in
-    search_next f a.gross bits.j bits.invariant (omega arith) not-here
+    search_next f a.gross bits.j bits.invariant (omega arith) not_here
 
 pub returns-after-bits : goal.returns-after-bits
 returns-after-bits c =

@@ -28,10 +28,10 @@ core_is c =
     (omega (arith, length-take-le n c.args.cores.at (omega arith)), core)
 
 -- whether the coordinate is near it
-found-is : (c : After-is_near)
+found_is : (c : After-is_near)
     → let core : ℕ = get_or (take c.args.cores.len c.args.cores.at) c.loop-i.i 0 in
     c.is_near.result ≡ (leb core (c.args.x + 2) && leb c.args.x (core + 2))
-found-is c =
+found_is c =
     let x : ℕ = c.args.x in
     c.is_near.ensures ∙ ap (λ (core : ℕ). leb core (x + 2) && leb x (core + 2)) (core_is c).1
 
@@ -47,7 +47,7 @@ returns-then-is_near c =
     let cs : List ℕ = take c.args.cores.len c.args.cores.at in
     let i : ℕ = c.loop-i.i in
     let core = core_is (goal.at.returns-then-is_near c).After-is_near in
-    let found = near_found cs c.args.x i core.0 (sym (found-is (goal.at.returns-then-is_near c).After-is_near) ∙ c.if-is_near.true) in
+    let found = near_found cs c.args.x i core.0 (sym (found_is (goal.at.returns-then-is_near c).After-is_near) ∙ c.if-is_near.true) in
     rw core.1 (sym (c.loop-i.invariant.1 ∙ found))
 
 pub loop-i-preserved : goal.loop-i-preserved
@@ -56,7 +56,7 @@ loop-i-preserved c =
     let i : ℕ = c.loop-i.i in
     let next =
     near_next cs c.args.x i (core_is (goal.at.loop-i-preserved c).After-is_near).0
-    (sym (found-is (goal.at.loop-i-preserved c).After-is_near) ∙ c.if-is_near.false) in
+    (sym (found_is (goal.at.loop-i-preserved c).After-is_near) ∙ c.if-is_near.false) in
     (omega (arith, c.wide-n.ensures), c.loop-i.invariant.1 ∙ next)
 
 pub returns : goal.returns

@@ -15,9 +15,9 @@ near_core-requires c =
     (rows.0, rows.1, omega arith)
 
 -- the module's column is near a core: its number and the offset from it
-column-near : (c : In-Core)
+column_near : (c : In-Core)
     → near_row c.args.cores.across c.args.x ≡ Core c.in-Core.i c.in-Core.o
-column-near c = sym c.near_core.ensures ∙ c.in-Core.is
+column_near c = sym c.near_core.ensures ∙ c.in-Core.is
 
 -- and so is its row
 row_near : (c : In-Core-near_core)
@@ -26,9 +26,9 @@ row_near c = sym c.near_core-2.ensures ∙ c.in-Core-near_core.is
 
 pub returns-in_default : goal.returns-in_default
 returns-in_default c =
-    let near-core = c.near_core in
+    let near_core = c.near_core in
     let a = c.args in
-    sym (column_apart a.p a.cores c.requires.0 a.x a.y (sym near-core.ensures ∙ c.in_default.is))
+    sym (column_apart a.p a.cores c.requires.0 a.x a.y (sym near_core.ensures ∙ c.in_default.is))
 
 pub near_core-requires-2 : goal.near_core-requires-2
 near_core-requires-2 c =
@@ -40,13 +40,13 @@ returns-in_default-near_core c =
     let a = c.args in
     let apart = sym c.near_core-2.ensures ∙ c.in_default-near_core.is in
     sym (row_apart a.p a.cores c.requires.0 a.x a.y c.in-Core.i c.in-Core.o
-    (column-near (goal.at.returns-in_default-near_core c).In-Core) apart)
+    (column_near (goal.at.returns-in_default-near_core c).In-Core) apart)
 
 pub pattern_of-s-requires : goal.pattern_of-s-requires
 pattern_of-s-requires c =
     let a = c.args in
     let across =
-    number_across a.p a.cores c.requires.0 a.x c.in-Core.i c.in-Core.o (column-near (goal.at.pattern_of-s-requires c).In-Core) in
+    number_across a.p a.cores c.requires.0 a.x c.in-Core.i c.in-Core.o (column_near (goal.at.pattern_of-s-requires c).In-Core) in
     let down =
     number_down a.p a.cores c.requires.0 a.y c.in-Core-near_core.j c.in-Core-near_core.u
     (row_near (goal.at.pattern_of-s-requires c).In-Core-near_core) in
@@ -62,5 +62,5 @@ returns c =
     c.pattern_of-s.ensures ∙ ap₂ among across down in
     let colour =
     both_near a.p a.cores c.requires.0 a.x a.y c.in-Core.i c.in-Core.o c.in-Core-near_core.j c.in-Core-near_core.u
-    (column-near (goal.at.returns c).In-Core) (row_near (goal.at.returns c).In-Core-near_core) in
+    (column_near (goal.at.returns c).In-Core) (row_near (goal.at.returns c).In-Core-near_core) in
     c.colour_in.ensures ∙ ap (λ (s : Pattern). colour_in s c.in-Core.o c.in-Core-near_core.u) pattern ∙ sym colour

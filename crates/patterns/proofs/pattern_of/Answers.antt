@@ -10,44 +10,44 @@ use Rattle.patterns.proofs.pattern_of.Goals as goal
 pub returns-then-not-is_outer : goal.returns-then-not-is_outer
 unfolding pattern_of
 returns-then-not-is_outer c =
-    let is-outer = c.is_outer in
+    let is_outer = c.is_outer in
     let a = c.args in
     let across : (eqb a.i 0 || eqb (a.i + 1) a.p) ≡ false =
-    sym is-outer.ensures ∙ not-true is-outer.result (ap not c.if-not-is_outer.true) in
+    sym is_outer.ensures ∙ not-true is_outer.result (ap not c.if-not-is_outer.true) in
     rw across c.inner_alignment.ensures
 
 pub returns-then-not-is_outer-2 : goal.returns-then-not-is_outer-2
 unfolding pattern_of
 returns-then-not-is_outer-2 c =
-    let is-outer2 = c.is_outer-2 in
-    let is-outer = c.is_outer in
+    let is_outer2 = c.is_outer-2 in
+    let is_outer = c.is_outer in
     let a = c.args in
     let across : (eqb a.i 0 || eqb (a.i + 1) a.p) ≡ true =
-    sym is-outer.ensures ∙ not-false is-outer.result (ap not c.if-not-is_outer.false) in
+    sym is_outer.ensures ∙ not-false is_outer.result (ap not c.if-not-is_outer.false) in
     let down : (eqb a.j 0 || eqb (a.j + 1) a.q) ≡ false =
-    sym is-outer2.ensures ∙ not-true is-outer2.result (ap not c.if-not-is_outer-2.true) in
+    sym is_outer2.ensures ∙ not-true is_outer2.result (ap not c.if-not-is_outer-2.true) in
     rw (across, down) c.inner_alignment-then-not-is_outer-2.ensures
 
 pub returns-then-kind-eq0 : goal.returns-then-kind-eq0
 unfolding pattern_of
 returns-then-kind-eq0 c =
-    let is-outer2 = c.is_outer-2 in
-    let is-outer = c.is_outer in
+    let is_outer2 = c.is_outer-2 in
+    let is_outer = c.is_outer in
     let a = c.args in
     let across : (eqb a.i 0 || eqb (a.i + 1) a.p) ≡ true =
-    sym is-outer.ensures ∙ not-false is-outer.result (ap not c.if-not-is_outer.false) in
+    sym is_outer.ensures ∙ not-false is_outer.result (ap not c.if-not-is_outer.false) in
     let down : (eqb a.j 0 || eqb (a.j + 1) a.q) ≡ true =
-    sym is-outer2.ensures ∙ not-false is-outer2.result (ap not c.if-not-is_outer-2.false) in
+    sym is_outer2.ensures ∙ not-false is_outer2.result (ap not c.if-not-is_outer-2.false) in
     rw (across, down, eq-eqb a.kind 0 c.if-kind-eq0.true) c.finder_at.ensures
 
 pub returns : goal.returns
 unfolding pattern_of
 returns c =
-    let is-outer2 = c.is_outer-2 in
-    let is-outer = c.is_outer in
+    let is_outer2 = c.is_outer-2 in
+    let is_outer = c.is_outer in
     let a = c.args in
     let across : (eqb a.i 0 || eqb (a.i + 1) a.p) ≡ true =
-    sym is-outer.ensures ∙ not-false is-outer.result (ap not c.if-not-is_outer.false) in
+    sym is_outer.ensures ∙ not-false is_outer.result (ap not c.if-not-is_outer.false) in
     let down : (eqb a.j 0 || eqb (a.j + 1) a.q) ≡ true =
-    sym is-outer2.ensures ∙ not-false is-outer2.result (ap not c.if-not-is_outer-2.false) in
+    sym is_outer2.ensures ∙ not-false is_outer2.result (ap not c.if-not-is_outer-2.false) in
     rw (across, down, ne_eqb a.kind 0 c.if-kind-eq0.false) c.corner_alignment.ensures

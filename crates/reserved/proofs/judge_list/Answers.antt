@@ -15,12 +15,12 @@ returns-then-n-gt1024 c =
 
 pub returns-then-place-n : goal.returns-then-place-n
 returns-then-place-n c =
-    let first-bad = c.first_bad-place in
+    let first_bad = c.first_bad-place in
     let a = c.args in
-    sym (one_bad a.p a.list.now c.if-list-ne0.false c.if-n-gt1024.false first-bad.result first-bad.ensures c.if-place-n.true)
+    sym (one_bad a.p a.list.now c.if-list-ne0.false c.if-n-gt1024.false first_bad.result first_bad.ensures c.if-place-n.true)
 
 pub returns : goal.returns
 returns c =
-    let first-bad = c.first_bad-place in
+    let first_bad = c.first_bad-place in
     let a = c.args in
-    sym (none_bad a.p a.list.now c.if-list-ne0.false c.if-n-gt1024.false first-bad.result first-bad.ensures c.if-place-n.false)
+    sym (none_bad a.p a.list.now c.if-list-ne0.false c.if-n-gt1024.false first_bad.result first_bad.ensures c.if-place-n.false)

@@ -27,9 +27,9 @@ passed c =
 
 pub returns-then-end-eq0 : goal.returns-then-end-eq0
 returns-then-end-eq0 c =
-    let up-to-last-one = c.up_to_last_one-end in
+    let up_to_last_one = c.up_to_last_one-end in
     let a = c.args in
-    all_zero a.net.now a.room a.message.now up-to-last-one.ensures c.if-end-eq0.true c.stream_refused.ensures
+    all_zero a.net.now a.room a.message.now up_to_last_one.ensures c.if-end-eq0.true c.stream_refused.ensures
 
 pub slice_bounds-read_stream-end : goal.slice_bounds-read_stream-end
 slice_bounds-read_stream-end c = whole c

@@ -52,9 +52,9 @@ shape_of-out-in_default c =
 
 pub returns-in_default : goal.returns-in_default
 returns-in_default c =
-    let switch-of = c.switch_of-answer in
+    let switch_of = c.switch_of-answer in
     stands_stop c.loop-mode.invariant
-    (coded (goal.at.returns-in_default c).After-slice_known-in-loop-mode-1) switch-of.result switch-of.ensures
+    (coded (goal.at.returns-in_default c).After-slice_known-in-loop-mode-1) switch_of.result switch_of.ensures
     c.in_default.not-Next c.mode_number.ensures
 
 pub loop-mode-smaller : goal.loop-mode-smaller
@@ -65,6 +65,6 @@ loop-mode-smaller c =
 
 pub loop-mode-preserved : goal.loop-mode-preserved
 loop-mode-preserved c =
-    let switch-of = c.switch_of-answer in
+    let switch_of = c.switch_of-answer in
     stands_next c.loop-mode.invariant (coded (goal.at.loop-mode-preserved c).After-slice_known-in-loop-mode-1) c.in-Next.next c.in-Next.owed
-    (sym switch-of.ensures ∙ c.in-Next.is)
+    (sym switch_of.ensures ∙ c.in-Next.is)

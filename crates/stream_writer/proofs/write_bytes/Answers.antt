@@ -32,10 +32,10 @@ overflow_add-next c = omega (arith, room (goal.at.overflow_add-next c).In-loop-i
 
 pub loop-i-preserved : goal.loop-i-preserved
 loop-i-preserved c =
-    let put-bits = c.put_bits in
+    let put_bits = c.put_bits in
     let l = c.loop-i in
     let m = c.args.bytes.now in
-    let stored = field 8 (get_or m l.i 0) refl put-bits.ensures in
+    let stored = field 8 (get_or m l.i 0) refl put_bits.ensures in
     (omega arith, left_next (bytes_next m l.i c.loop-i-test.true) l.invariant.1 stored)
 
 pub returns : goal.returns

@@ -12,9 +12,9 @@ put_bits-requires c = omega (arith, short_length c.args.n c.if-n-lt16.true)
 
 pub returns-then-n-lt16 : goal.returns-then-n-lt16
 returns-then-n-lt16 c =
-    let put-bits = c.put_bits in
+    let put_bits = c.put_bits in
     let n = c.args.n in
-    same_piece (sym (count_short n c.if-n-lt16.true)) (field 4 n refl put-bits.ensures)
+    same_piece (sym (count_short n c.if-n-lt16.true)) (field 4 n refl put_bits.ensures)
 
 pub put_bits-requires-2 : goal.put_bits-requires-2
 put_bits-requires-2 c = omega (arith, long_length c.args.n c.if-n-lt16.false)
@@ -25,7 +25,7 @@ put_bits-requires-3 c =
 
 pub returns : goal.returns
 returns c =
-    let put-bits3 = c.put_bits-3 in
+    let put_bits3 = c.put_bits-3 in
     let n = c.args.n in
     same_piece (sym (count_long n c.if-n-lt16.false))
-    (joined (field 4 0 refl c.put_bits-2.ensures) (field 13 (n - 15) (omega arith) put-bits3.ensures))
+    (joined (field 4 0 refl c.put_bits-2.ensures) (field 13 (n - 15) (omega arith) put_bits3.ensures))

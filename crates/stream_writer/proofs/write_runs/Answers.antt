@@ -25,11 +25,11 @@ write_run-at-requires c =
 
 pub loop-from-preserved : goal.loop-from-preserved
 loop-from-preserved c =
-    let write-run = c.write_run-at in
+    let write_run = c.write_run-at in
     let to = c.run_end-to in
     let l = c.loop-from in
     let m = c.args.message.now in
-    (to.ensures.1, left_next (stream_next m l.from to.result to.ensures) l.invariant.1 write-run.ensures)
+    (to.ensures.1, left_next (stream_next m l.from to.result to.ensures) l.invariant.1 write_run.ensures)
 
 pub returns : goal.returns
 unfolding byte_stream byte_runs

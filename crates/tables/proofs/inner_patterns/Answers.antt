@@ -11,21 +11,21 @@ use Rattle.tables.proofs.inner_patterns.Goals as goal
 use Rattle.tables.proofs.inner_patterns.Goals.{After-wide-2}
 
 -- how many cores there are across and down
-across-are : (c : After-wide-2) → c.wide.result ≡ length (cores_of c.args.horizontal)
-across-are c = c.wide.ensures ∙ ap (λ (r : CoreRow). r.len) c.core_row-across.ensures
+across_are : (c : After-wide-2) → c.wide.result ≡ length (cores_of c.args.horizontal)
+across_are c = c.wide.ensures ∙ ap (λ (r : CoreRow). r.len) c.core_row-across.ensures
 
-down-are : (c : After-wide-2) → c.wide-2.result ≡ length (cores_of c.args.vertical)
-down-are c = c.wide-2.ensures ∙ ap (λ (r : CoreRow). r.len) c.core_row-down.ensures
+down_are : (c : After-wide-2) → c.wide-2.result ≡ length (cores_of c.args.vertical)
+down_are c = c.wide-2.ensures ∙ ap (λ (r : CoreRow). r.len) c.core_row-down.ensures
 
 -- 2 to 9 of each
 few : (c : After-wide-2)
     → (2 ≤ c.wide.result) × (c.wide.result ≤ 9) × (2 ≤ c.wide-2.result) × (c.wide-2.result ≤ 9)
 few c =
     let across = cores_least c.args.horizontal c.requires.0 c.requires.1 in
-    let across-most = cores_most c.args.horizontal c.requires.0 c.requires.1 in
+    let across_most = cores_most c.args.horizontal c.requires.0 c.requires.1 in
     let down = cores_least c.args.vertical c.requires.2 c.requires.3 in
-    let down-most = cores_most c.args.vertical c.requires.2 c.requires.3 in
-    omega (arith, across-are c, down-are c)
+    let down_most = cores_most c.args.vertical c.requires.2 c.requires.3 in
+    omega (arith, across_are c, down_are c)
 
 pub overflow_mul-result : goal.overflow_mul-result
 overflow_mul-result c = omega (arith, mul-le-mul (few c).1 (few c).3)
@@ -35,4 +35,4 @@ overflow_sub-result c = omega (arith, mul-le-mul (few c).0 (few c).2)
 
 pub returns : goal.returns
 unfolding inner_patterns
-returns c = (ap₂ (λ (m n : ℕ). m * n - 4) (across-are c) (down-are c), omega (arith, mul-le-mul (few c).1 (few c).3))
+returns c = (ap₂ (λ (m n : ℕ). m * n - 4) (across_are c) (down_are c), omega (arith, mul-le-mul (few c).1 (few c).3))

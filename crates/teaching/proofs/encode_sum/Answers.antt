@@ -47,11 +47,11 @@ returns c =
     let bits = c.requires.bits in
     let same = c.sizes_of-s.ensures in
     let areas = c.areas_for-a.ensures in
-    let word-x = word_stored p l none same areas long.0 c.encode.ensures in
-    let word-y = word_stored p l none same areas long.1 c.encode-2.ensures in
+    let word_x = word_stored p l none same areas long.0 c.encode.ensures in
+    let word_y = word_stored p l none same areas long.1 c.encode-2.ensures in
     let word_sum = word_stored p l none same areas long.2 c.encode-3.ensures in
     record {
-      words = (word-x, word-y, word_sum);
+      words = (word_x, word_y, word_sum);
       adds = words_add p l none same areas long.0 long.1 long.2 bits.0 bits.1
           c.encode.ensures c.encode-2.ensures c.encode-3.ensures;
     }
