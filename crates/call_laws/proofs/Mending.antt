@@ -78,11 +78,11 @@ module _ (p : Params) (l matrix before slice : List ℕ) (work : ℕ) (reaching 
   unfolding has Each stream_rows accepted_rows received_rows
   nine_stuck =
       let s : Sizes = sizes_for p l in
-      let isStuck : Type 0 = stuck checks word ≡ true in
-      let Q : ReadAnswer → Type 0 = λ a. a.number ≡ 9 → isStuck in
+      let stuck_there : Type 0 = stuck checks word ≡ true in
+      let Q : ReadAnswer → Type 0 = λ a. a.number ≡ 9 → stuck_there in
       let rows : List Row = short_places s word (length slice) ∷ accepted_rows s (last_word checks word) (length before) in
       subst⁻¹ Q received
-      (received_keeps s word got (length before) (length slice) Q (λ t z. t, each_other 9 (λ r. isStuck) rows refl)
+      (received_keeps s word got (length before) (length slice) Q (λ t z. t, each_other 9 (λ r. stuck_there) rows refl)
       (λ few fits z. absurd (omega arith)))
 
   is_mended : (answered.number ≡ 9 → ⊥) → stuck checks word ≡ false

@@ -125,13 +125,13 @@ pub record WritesAndReads (p : Params) (l stream matrix : List ℕ) (work : ℕ)
       × (matrix_after_write p l stream work matrix ≡ written_matrix p l stream)
   -- and a read of it gives back the message that the stream reads as, with no repair, no unmet check and no wrong stuffing bit, and leaves
   -- the slice for places as it came, however long it is
-  pub read_back : (message buffer places : List ℕ) (readWork : ℕ)
+  pub read_back : (message buffer places : List ℕ) (read_work : ℕ)
       → ReadsAs stream message
       → suc (length stream) ≤ (sizes_for p l).net
-      → (sizes_for p l).work ≤ readWork
+      → (sizes_for p l).work ≤ read_work
       → length message ≤ length buffer
       → let after = matrix_after_write p l stream work matrix in
-      let a = read_answer p l after readWork (length buffer) (length places) in
+      let a = read_answer p l after read_work (length buffer) (length places) in
       (a ≡ done no_counts (length message))
       × (front_after a.number (message_in p l after) buffer ≡ message ++ drop (length message) buffer)
       × (front_after a.number (places_in p l after) places ≡ places)
@@ -169,21 +169,21 @@ module _ (p : Params) (l stream matrix : List ℕ) (work : ℕ) (e : is_legal p 
       write_legal ∙ first_miss answer (no_room p l stream) [] (answer 0 0) fails ∙ first_none answer (answer 0 0) in
       (zero_is, matrix_at (answer 0 0) zero_is)
 
-  read_written : (message buffer places : List ℕ) (readWork : ℕ)
+  read_written : (message buffer places : List ℕ) (read_work : ℕ)
       → ReadsAs stream message
       → suc (length stream) ≤ (sizes_for p l).net
-      → (sizes_for p l).work ≤ readWork
+      → (sizes_for p l).work ≤ read_work
       → length message ≤ length buffer
-      → let a = read_answer p l after readWork (length buffer) (length places) in
+      → let a = read_answer p l after read_work (length buffer) (length places) in
       (a ≡ done no_counts (length message))
       × (front_after a.number (message_in p l after) buffer ≡ message ++ drop (length message) buffer)
       × (front_after a.number (places_in p l after) places ≡ places)
-  read_written message buffer places readWork reads fits enough long =
+  read_written message buffer places read_work reads fits enough long =
       let k : LegalSymbol p l = (legal p l (length matrix) work e).symbol in
       let same : after ≡ written_matrix p l stream = (write_done fits).1 in
-      let read : read_answer p l after readWork (length buffer) (length places) ≡ done no_counts (length message) =
-      ap (λ (x : List ℕ). read_answer p l x readWork (length buffer) (length places)) same
-      ∙ write_read p l k reads fits readWork (length buffer) (length places) enough long in
+      let read : read_answer p l after read_work (length buffer) (length places) ≡ done no_counts (length message) =
+      ap (λ (x : List ℕ). read_answer p l x read_work (length buffer) (length places)) same
+      ∙ write_read p l k reads fits read_work (length buffer) (length places) enough long in
       let found : message_in p l after ≡ message = ap (message_in p l) same ∙ write_read_bytes p l k reads fits in
       let none : places_in p l after ≡ [] = ap (places_in p l) same ∙ write_read_places p l k reads in
       (read, rw (read, found) (done_front message buffer long), rw (read, none) (done_front [] places (omega arith)))

@@ -9,7 +9,7 @@ use lib.Dec.{ltb, eqb}
 use lib.ListN.{length, get_or, take, drop, length-map, get_or-append, get_or-eq_default}
 use borrow.Author.Tests.{ne_eqb}
 use Rattle.symbology.specs.Ranges.{tabulate}
-use Rattle.symbology.specs.Characters.{mixed_characters, utf8, utf8Bytes, character_bytes}
+use Rattle.symbology.specs.Characters.{mixed_characters, utf8, utf8_bytes, character_bytes}
 use Rattle.symbology.proofs.Ranges.{and_left, and_right}
 use Rattle.laws.proofs.Ranges.{get_d_tabulate}
 
@@ -21,13 +21,13 @@ is_ascii [] = true
 is_ascii (c ∷ cs) = ltb c 0x80 && is_ascii cs
 
 -- a character of the 7-bit set is its own byte
-one_byte : (c : ℕ) → ltb c 0x80 ≡ true → utf8Bytes (c ∷ []) ≡ c ∷ []
-unfolding utf8Bytes utf8
+one_byte : (c : ℕ) → ltb c 0x80 ≡ true → utf8_bytes (c ∷ []) ≡ c ∷ []
+unfolding utf8_bytes utf8
 one_byte c h = rw h
 
 -- a column of such characters gives one byte at each of their values, and none past them
 pub column : (cs : List ℕ) → is_ascii cs ≡ true → (v : ℕ) → take 1 (drop v cs) ≡ character_bytes (map (λ c. c ∷ []) cs) v
-unfolding is_ascii character_bytes utf8Bytes
+unfolding is_ascii character_bytes utf8_bytes
 column [] h zero = refl
 column [] h (suc v) = refl
 column (c ∷ cs) h zero = sym (one_byte c (and_left (ltb c 0x80) (is_ascii cs) h))
@@ -39,12 +39,12 @@ pub column_front : (cs : List ℕ) (more : List (List ℕ)) → is_ascii cs ≡ 
 unfolding character_bytes
 column_front cs more h v l =
     let inside : v < length (map (λ (c : ℕ). c ∷ []) cs) = omega (arith, length-map cs (λ (c : ℕ). c ∷ [])) in
-    column cs h v ∙ ap utf8Bytes (sym (get_or-append (map (λ c. c ∷ []) cs) more [] v inside))
+    column cs h v ∙ ap utf8_bytes (sym (get_or-append (map (λ c. c ∷ []) cs) more [] v inside))
 
 -- there are 32 mixed characters
 pub past_mixed : (v : ℕ) → 32 ≤ v → [] ≡ character_bytes mixed_characters v
-unfolding mixed_characters character_bytes utf8Bytes
-past_mixed v h = sym (ap utf8Bytes (get_or-eq_default mixed_characters [] {n = v} h))
+unfolding mixed_characters character_bytes utf8_bytes
+past_mixed v h = sym (ap utf8_bytes (get_or-eq_default mixed_characters [] {n = v} h))
 
 -- ---- the mixed characters of several bytes, from value 19 on
 
@@ -60,7 +60,7 @@ pair : ℕ → List ℕ
 pair i = cond (eqb i 4) (character_bytes mixed_characters 23) (get_or mixed_first i 0 ∷ get_or mixed_second i 0 ∷ [])
 
 pairs : tabulate 13 pair ≡ tabulate 13 (λ i. character_bytes mixed_characters (19 + i))
-unfolding tabulate pair mixed_characters character_bytes utf8Bytes utf8
+unfolding tabulate pair mixed_characters character_bytes utf8_bytes utf8
 pairs = refl
 
 pub two_of : (v : ℕ) → 19 ≤ v → v < 32 → (v ≡ 23 → ⊥)

@@ -83,8 +83,8 @@ module _ {a : Areas} {m : BitMatrix} {before after : List ℕ} (holds : HoldsChe
         spare_is = t.spare_is ∙ ap (λ (bs : List ℕ). any_one (drop a.net bs)) same;
       }
 
-  pub mended_as : {room repairs first : ℕ} {isStuck : Bool} → Laid a room → MendedBy a before after repairs first isStuck
-      → WordMended a m before after repairs first isStuck
+  pub mended_as : {room repairs first : ℕ} {stuck_there : Bool} → Laid a room → MendedBy a before after repairs first stuck_there
+      → WordMended a m before after repairs first stuck_there
   mended_as laid b =
       let w : List ℕ = word_in a before in
       let same : checks_in a before ≡ checks_of a.checks a.gross m =

@@ -21,14 +21,14 @@ pub record WordEncoded (a : Areas) (m : BitMatrix) (before after : List ℕ) : T
 -- The word is the last of the rule's run from the word before, over the checks of the matrix, and repairs, first unmet count and stuck
 -- are those of that run; the places of the repairs, in their order, begin the area of the places. The checks are those of the matrix. The
 -- row behind the rows, marks and numbers are scratch then: nothing is said of them. Nothing else is changed.
-pub record WordMended (a : Areas) (m : BitMatrix) (before after : List ℕ) (repairs first : ℕ) (isStuck : Bool) : Type 0 where
+pub record WordMended (a : Areas) (m : BitMatrix) (before after : List ℕ) (repairs first : ℕ) (stuck_there : Bool) : Type 0 where
   pub changed : Changed (checks_span a ∷ word_row_span a ∷ marks_span a ∷ word_span a ∷ numbers_span a ∷ repaired_span a ∷ []) before after
   pub word_is : word_in a after ≡ last_word (checks_of a.checks a.gross m) (word_in a before)
   pub repairs_are : repairs ≡ length (repairs_of (checks_of a.checks a.gross m) (word_in a before))
   pub places_are : numbers_at after a.repaired repairs ≡ places_of (repairs_of (checks_of a.checks a.gross m) (word_in a before))
   pub first_is : first ≡ unmet_count (checks_of a.checks a.gross m) (word_in a before)
   pub bounded : repairs ≤ first
-  pub stuck_is : isStuck ≡ stuck (checks_of a.checks a.gross m) (word_in a before)
+  pub stuck_is : stuck_there ≡ stuck (checks_of a.checks a.gross m) (word_in a before)
   pub holds : HoldsChecks a m after
 
 -- The net bits are the first of the word's message bits, and `spare` tells whether another of these is 1. Rows, marks and numbers are

@@ -17,7 +17,7 @@ use Rattle.symbology.specs.declared.Expected.{Expected}
 use Rattle.symbology.specs.declared.Expected.TheVariants.{Latched, MoreSwitches, ShortCount, LongCount, Byte}
 use Rattle.symbology.specs.Bits.{AllBits, AllBytes, bits}
 use Rattle.symbology.specs.Ranges.{tabulate}
-use Rattle.symbology.specs.Characters.{upper_characters, utf8Bytes, character_bytes}
+use Rattle.symbology.specs.Characters.{upper_characters, utf8_bytes, character_bytes}
 use Rattle.symbology.specs.Modes.{code_width, character_count, direct_switches, more_switches, switch_of, characters_of, bytes_of}
 use Rattle.symbology.specs.Stream.{stream_of, ReadsAs, decode, byte_bits, run_count, byte_run, byte_runs, byte_stream}
 use Rattle.laws.proofs.Bits.{take_every, drop_every, length_bits, value_bits, append_bits, bits_are}
@@ -81,7 +81,7 @@ count_back m n rest out h = elim (dec_lt (suc n) 16) [
 
 -- the two switches of a run
 switch_back : (rest out : List ℕ) → read_from Upper Latched (bits 5 31 ++ (bits 2 0 ++ rest)) out ≡ read_from Upper ShortCount rest out
-unfolding switch_of character_count direct_switches more_switches bytes_of characters_of character_bytes upper_characters tabulate utf8Bytes
+unfolding switch_of character_count direct_switches more_switches bytes_of characters_of character_bytes upper_characters tabulate utf8_bytes
 switch_back rest out =
     code_back Upper Latched 31 (bits 2 0 ++ rest) out (omega arith)
     ∙ code_back Upper MoreSwitches 0 rest (out ++ []) (omega arith) ∙ rw (append-nil out, append-nil out)

@@ -1,4 +1,4 @@
--- What the ranges of the parameters say, one fact for each test of `inRange`, and the bits per module: N is 2 to the power of them.
+-- What the ranges of the parameters say, one fact for each test of `in_range`, and the bits per module: N is 2 to the power of them.
 -- Assumes nothing.
 use Prim.Native.Nat.{ℕ, ◌^◌, ◌≤◌, ◌<◌}
 use mathlib.Core.Path.{◌≡◌, refl}

@@ -19,7 +19,7 @@ use Rattle.symbology.specs.declared.ModeAnswer.TheVariants.{Next, EndOfMessage, 
 use Rattle.symbology.specs.Bits.{value}
 use Rattle.symbology.specs.Ranges.{tabulate, all_below}
 use Rattle.symbology.specs.Characters.{upper_characters, lower_characters, numeric_characters, punctuation_characters}
-use Rattle.symbology.specs.Characters.{mixed_characters, alphanumeric_characters, utf8, utf8Bytes, character_bytes}
+use Rattle.symbology.specs.Characters.{mixed_characters, alphanumeric_characters, utf8, utf8_bytes, character_bytes}
 use Rattle.symbology.specs.Modes.{code_width, switch_of, characters_of, bytes_of, mode_number, end_number}
 use Rattle.symbology.specs.Stream.{Decoded, Reading, at, over, after_code, read_code, read_codes, decode}
 use Rattle.symbology.proofs.Ranges.{below_true}
@@ -212,28 +212,28 @@ read_short m e bs out h =
 -- a table's characters give at most k bytes each
 characters_few : (k : ℕ) (table : List (List ℕ)) → all_below (length table) (λ v. leb (length (character_bytes table v)) k) ≡ true
     → (v : ℕ) → length (character_bytes table v) ≤ k
-unfolding character_bytes utf8Bytes
+unfolding character_bytes utf8_bytes
 characters_few k table t v = elim (dec_lt v (length table)) [
   | yes h ↦
-      let few = below_true (λ v. leb (length (utf8Bytes (get_or table v []))) k) (length table) t v h in
-      leb-true (length (utf8Bytes (get_or table v []))) k few
+      let few = below_true (λ v. leb (length (utf8_bytes (get_or table v []))) k) (length table) t v h in
+      leb-true (length (utf8_bytes (get_or table v []))) k few
   | no h ↦ rw (get_or-eq_default table [] {n = v} (omega arith)) (omega arith)
 ]
 
 latched_few : (m : Mode) (v : ℕ) → length (character_bytes (characters_of m) v) ≤ 1
 unfolding characters_of upper_characters lower_characters numeric_characters alphanumeric_characters tabulate all_below character_bytes
-    utf8Bytes utf8
+    utf8_bytes utf8
 latched_few Upper v = characters_few 1 upper_characters refl v
 latched_few Lower v = characters_few 1 lower_characters refl v
 latched_few Numeric v = characters_few 1 numeric_characters refl v
 latched_few Alphanumeric v = characters_few 1 alphanumeric_characters refl v
 
 punctuation_few : (v : ℕ) → length (character_bytes punctuation_characters v) ≤ 1
-unfolding punctuation_characters all_below character_bytes utf8Bytes utf8
+unfolding punctuation_characters all_below character_bytes utf8_bytes utf8
 punctuation_few v = characters_few 1 punctuation_characters refl v
 
 mixed_few : (v : ℕ) → length (character_bytes mixed_characters v) ≤ 3
-unfolding mixed_characters all_below character_bytes utf8Bytes utf8
+unfolding mixed_characters all_below character_bytes utf8_bytes utf8
 mixed_few v = characters_few 3 mixed_characters refl v
 
 -- a code gives at most three bytes

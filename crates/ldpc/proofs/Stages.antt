@@ -72,8 +72,8 @@ module _ {s : Sizes} {a : Areas} {before built : List ℕ} (r : RoomFor s a (len
       }
 
   -- A is built and the word mended
-  pub mended_over : {after : List ℕ} {repairs first : ℕ} {isStuck : Bool} → MendedBy a built after repairs first isStuck
-      → WordMended a (matrix_for s) before after repairs first isStuck
+  pub mended_over : {after : List ℕ} {repairs first : ℕ} {stuck_there : Bool} → MendedBy a built after repairs first stuck_there
+      → WordMended a (matrix_for s) before after repairs first stuck_there
   mended_over m =
       let over = mended_as b.holds (room_laid r) m in
       let cs : List (List ℕ) = checks_of a.checks a.gross (matrix_for s) in

@@ -43,11 +43,11 @@ count_skip f a work j q (suc i) h none =
     ]
 
 -- The checks before i are passed, of which bit j stands in so many unmet and met ones, and it stands in check i, where there is one.
-pub record Passed (a : Areas) (work : List ℕ) (j unmetSoFar metSoFar i : ℕ) : Type 0 where
+pub record Passed (a : Areas) (work : List ℕ) (j unmet_so_far met_so_far i : ℕ) : Type 0 where
   pub most : i ≤ a.checks
-  pub few : unmetSoFar + metSoFar ≤ i
-  pub unmet_is : unmetSoFar ≡ unmet_with a work j i
-  pub met_is : metSoFar ≡ met_with a work j i
+  pub few : unmet_so_far + met_so_far ≤ i
+  pub unmet_is : unmet_so_far ≡ unmet_with a work j i
+  pub met_is : met_so_far ≡ met_with a work j i
   pub there : i < a.checks → stands_in a work i j ≡ true
 
 -- the first check that the bit stands in
@@ -62,10 +62,10 @@ passed_start {a} {work} {j} {i} n =
       there = n.there;
     }
 
-module _ {a : Areas} {work : List ℕ} {j unmetSoFar metSoFar i : ℕ} (s : Passed a work j unmetSoFar metSoFar i) where
+module _ {a : Areas} {work : List ℕ} {j unmet_so_far met_so_far i : ℕ} (s : Passed a work j unmet_so_far met_so_far i) where
   -- check i is counted by its mark, and `to` is the next one
-  pub passed_next : {u m to : ℕ} → i < a.checks → mark_of a work i ≤ 1 → u ≡ unmetSoFar + mark_of a work i
-      → m ≡ metSoFar + (1 - mark_of a work i) → NextCheck a work j (i + 1) to → Passed a work j u m to
+  pub passed_next : {u m to : ℕ} → i < a.checks → mark_of a work i ≤ 1 → u ≡ unmet_so_far + mark_of a work i
+      → m ≡ met_so_far + (1 - mark_of a work i) → NextCheck a work j (i + 1) to → Passed a work j u m to
   unfolding count_with
   passed_next {to = to} h b p q n =
       let counted : (f : ℕ → ℕ) → count_with f a work j to ≡ count_with f a work j i + f (mark_of a work i) = λ f.
@@ -79,19 +79,19 @@ module _ {a : Areas} {work : List ℕ} {j unmetSoFar metSoFar i : ℕ} (s : Pass
       }
 
   -- all checks are passed: the bit stands in more unmet than met ones
-  pub passed_suspect : i ≡ a.checks → metSoFar < unmetSoFar → suspect_by a work j ≡ true
+  pub passed_suspect : i ≡ a.checks → met_so_far < unmet_so_far → suspect_by a work j ≡ true
   unfolding suspect_by
   passed_suspect e h =
-      let met : metSoFar ≡ met_with a work j a.checks = s.met_is ∙ ap (met_with a work j) e in
-      let unmet : unmetSoFar ≡ unmet_with a work j a.checks = s.unmet_is ∙ ap (unmet_with a work j) e in
+      let met : met_so_far ≡ met_with a work j a.checks = s.met_is ∙ ap (met_with a work j) e in
+      let unmet : unmet_so_far ≡ unmet_with a work j a.checks = s.unmet_is ∙ ap (unmet_with a work j) e in
       lt-ltb (met_with a work j a.checks) (unmet_with a work j a.checks) (omega arith)
 
   -- all checks are passed: it does not
-  pub passed_unsuspected : i ≡ a.checks → unmetSoFar ≤ metSoFar → suspect_by a work j ≡ false
+  pub passed_unsuspected : i ≡ a.checks → unmet_so_far ≤ met_so_far → suspect_by a work j ≡ false
   unfolding suspect_by
   passed_unsuspected e h =
-      let met : metSoFar ≡ met_with a work j a.checks = s.met_is ∙ ap (met_with a work j) e in
-      let unmet : unmetSoFar ≡ unmet_with a work j a.checks = s.unmet_is ∙ ap (unmet_with a work j) e in
+      let met : met_so_far ≡ met_with a work j a.checks = s.met_is ∙ ap (met_with a work j) e in
+      let unmet : unmet_so_far ≡ unmet_with a work j a.checks = s.unmet_is ∙ ap (unmet_with a work j) e in
       le-ltb (met_with a work j a.checks) (unmet_with a work j a.checks) (omega arith)
 
 -- A bit whose balance is no more than the number of checks is not suspect.

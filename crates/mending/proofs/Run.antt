@@ -153,11 +153,11 @@ module _ {a : Areas} {start work : List ℕ} {repairs : ℕ} (m : MendedTo a sta
       }
 
   -- a step turns a bit
-  module _ {j : ℕ} {turnedOnce : List ℕ} (low : LowestSuspect (checks_in a work) (word_in a work) j)
-      (t : BitTurned a j work turnedOnce) where
+  module _ {j : ℕ} {turned_once : List ℕ} (low : LowestSuspect (checks_in a work) (word_in a work) j)
+      (t : BitTurned a j work turned_once) where
     -- the run goes on, with fewer checks unmet
-    onward : RunTo (checks_in a start) (word_in a start) (word_in a turnedOnce) (m.sofar ++ (j ∷ []))
-        × (unmet_count (checks_in a start) (word_in a turnedOnce) < unmet_count (checks_in a start) (word_in a work))
+    onward : RunTo (checks_in a start) (word_in a start) (word_in a turned_once) (m.sofar ++ (j ∷ []))
+        × (unmet_count (checks_in a start) (word_in a turned_once) < unmet_count (checks_in a start) (word_in a work))
     onward =
         run_next m.run (checks_once a.checks a.gross (stands_in a start))
         (subst (λ (cs : List (List ℕ)). LowestSuspect cs (word_in a work) j) same_checks low) t.word_is
@@ -168,18 +168,18 @@ module _ {a : Areas} {start work : List ℕ} {repairs : ℕ} (m : MendedTo a sta
         omega (arith, many, m.run.bounded, onward.1, unmet_few a.checks a.gross (stands_in a start) (word_in a start))
 
     -- its place is stored behind the others
-    module _ {later : List ℕ} (e : later ≡ stored_number turnedOnce (a.repaired + 2 * repairs) (j + 1)) where
-      here : Laid a (length turnedOnce)
+    module _ {later : List ℕ} (e : later ≡ stored_number turned_once (a.repaired + 2 * repairs) (j + 1)) where
+      here : Laid a (length turned_once)
       here = laid_as m.laid t.changed.long
 
-      stored : Changed (repaired_span a ∷ []) turnedOnce later
+      stored : Changed (repaired_span a ∷ []) turned_once later
       stored =
           let laid = m.laid in
           rw e
-          (changed_stored (changed_none (repaired_span a ∷ []) turnedOnce) (a.repaired + 2 * repairs) (j + 1)
+          (changed_stored (changed_none (repaired_span a ∷ []) turned_once) (a.repaired + 2 * repairs) (j + 1)
           (λ o. omega (arith, place_room, o.0 (omega arith))) (λ o. omega (arith, place_room, o.0 (omega arith))))
 
-      word_stays : word_in a later ≡ word_in a turnedOnce
+      word_stays : word_in a later ≡ word_in a turned_once
       word_stays = let laid = here in word_kept laid stored (λ q l g. omega arith)
 
       places_more : numbers_at later a.repaired (repairs + 1) ≡ places_of (m.sofar ++ (j ∷ []))
@@ -188,12 +188,12 @@ module _ {a : Areas} {start work : List ℕ} {repairs : ℕ} (m : MendedTo a sta
           let at : ℕ = a.repaired in
           let before : numbers_at later at repairs ≡ numbers_at work at repairs =
           rw e
-          (numbers_same work (stored_number turnedOnce (at + 2 * repairs) (j + 1)) at repairs
+          (numbers_same work (stored_number turned_once (at + 2 * repairs) (j + 1)) at repairs
           (λ i l g.
-          stored_other turnedOnce (at + 2 * repairs) (j + 1) i (λ f. omega arith) (λ f. omega arith)
+          stored_other turned_once (at + 2 * repairs) (j + 1) i (λ f. omega arith) (λ f. omega arith)
           ∙ t.changed.kept i (omega arith))) in
           let new : number_at later (at + 2 * repairs) ≡ suc j =
-          rw e (stored_there turnedOnce (at + 2 * repairs) (j + 1) (omega (arith, place_room, here.repaired_end)) ∙ add-one j) in
+          rw e (stored_there turned_once (at + 2 * repairs) (j + 1) (omega (arith, place_room, here.repaired_end)) ∙ add-one j) in
           numbers_last later at repairs
           ∙ ap₂ (λ (xs : List ℕ) (v : ℕ). xs ++ (v ∷ [])) (before ∙ m.places) new
           ∙ sym (places_last m.sofar j)

@@ -42,12 +42,12 @@ pub record RuleRun (a : Areas) (before after : List ℕ) (n : ℕ) : Type 0 wher
 -- The word is the last of the rule's run from the word before, the count is that of its repairs and at most the first unmet count, their
 -- places begin the area of the places, and the word is stuck as the rule says. The marks are those of the last word; only marks, word,
 -- numbers, places and the row behind the rows are changed. The numbers and that row are scratch then: nothing is said of them.
-pub record MendedBy (a : Areas) (before after : List ℕ) (repairs first : ℕ) (isStuck : Bool) : Type 0 where
+pub record MendedBy (a : Areas) (before after : List ℕ) (repairs first : ℕ) (stuck_there : Bool) : Type 0 where
   pub changed : Changed (word_row_span a ∷ marks_span a ∷ word_span a ∷ numbers_span a ∷ repaired_span a ∷ []) before after
   pub word_is : word_in a after ≡ last_word (checks_in a before) (word_in a before)
   pub repairs_are : repairs ≡ length (repairs_of (checks_in a before) (word_in a before))
   pub places_are : numbers_at after a.repaired repairs ≡ places_of (repairs_of (checks_in a before) (word_in a before))
   pub first_is : first ≡ unmet_count (checks_in a before) (word_in a before)
   pub bounded : repairs ≤ first
-  pub stuck_is : isStuck ≡ stuck (checks_in a before) (word_in a before)
+  pub stuck_is : stuck_there ≡ stuck (checks_in a before) (word_in a before)
   pub marked : Marked a after

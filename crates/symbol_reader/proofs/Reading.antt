@@ -122,8 +122,8 @@ module _ (s : Sizes) (w : List ℕ) (got : Counts) (room : ℕ) (before slice : 
       AnsweredWithPlaces (answer_from_received s w got room (length slice)) (message_in_accepted s (last_word (checks_for s) w))
       (places_of (repairs_of (checks_for s) w)) before slice a after stored
 
-module _ {s : Sizes} {a : Areas} {size : ℕ} {work mended : List ℕ} {repairs unmet : ℕ} {isStuck : Bool} (r : RoomFor s a size)
-    (m : WordMended a (matrix_for s) work mended repairs unmet isStuck) (got : Counts) (room : ℕ) (before slice : List ℕ) where
+module _ {s : Sizes} {a : Areas} {size : ℕ} {work mended : List ℕ} {repairs unmet : ℕ} {stuck_there : Bool} (r : RoomFor s a size)
+    (m : WordMended a (matrix_for s) work mended repairs unmet stuck_there) (got : Counts) (room : ℕ) (before slice : List ℕ) where
   abbrev w : List ℕ
   w = word_in a work
 
@@ -136,7 +136,7 @@ module _ {s : Sizes} {a : Areas} {size : ℕ} {work mended : List ℕ} {repairs 
   many : repairs ≡ length (repairs_of (checks_for s) w)
   many = ap (λ (c : Counts). c.repairs) counts_are
 
-  stuck_told : isStuck ≡ stuck (checks_for s) w
+  stuck_told : stuck_there ≡ stuck (checks_for s) w
   stuck_told = m.stuck_is ∙ ap (λ (cs : List (List ℕ)). stuck cs w) (checks_for_lem r)
 
   last_is : word_in a mended ≡ last_word (checks_for s) w
@@ -158,18 +158,18 @@ module _ {s : Sizes} {a : Areas} {size : ℕ} {work mended : List ℕ} {repairs 
       (same ∙ ap (λ (c : Counts). counted c number 0) (sym counts_are))
 
   -- 9: stuck
-  pub stuck_word_lem : {answer : ReadAnswer} → isStuck ≡ true → answer ≡ counted counts 9 0
+  pub stuck_word_lem : {answer : ReadAnswer} → stuck_there ≡ true → answer ≡ counted counts 9 0
       → FromReceived s w got room before slice answer before slice
   stuck_word_lem t e = refused_late 9 (λ z. omega arith) e (from_stuck s w got room (length slice) (sym stuck_told ∙ t))
 
   -- 16: more repairs than places
-  pub short_places_lem : {answer : ReadAnswer} → isStuck ≡ false → length slice < repairs → answer ≡ counted counts 16 0
+  pub short_places_lem : {answer : ReadAnswer} → stuck_there ≡ false → length slice < repairs → answer ≡ counted counts 16 0
       → FromReceived s w got room before slice answer before slice
   short_places_lem t more e =
       refused_late 16 (λ z. omega arith) e (from_short s w got room (length slice) (sym stuck_told ∙ t) (omega (arith, many)))
 
   -- neither
-  pub mended_word : {answer : ReadAnswer} {after stored : List ℕ} → isStuck ≡ false → repairs ≤ length slice
+  pub mended_word : {answer : ReadAnswer} {after stored : List ℕ} → stuck_there ≡ false → repairs ≤ length slice
       → AnsweredWithPlaces (answer_from_accepted s (word_in a mended) counts room) (message_in_accepted s (word_in a mended))
       (numbers_at mended a.repaired repairs) before slice answer after stored
       → FromReceived s w got room before slice answer after stored

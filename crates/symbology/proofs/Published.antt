@@ -11,7 +11,7 @@ use borrow.Author.Tests.{eqb-true}
 use Rattle.symbology.specs.Ranges.{all_below, lowest}
 use Rattle.symbology.specs.Sides.{core_table, cores_of, inner_patterns}
 use Rattle.symbology.specs.Capacity.{bits_per_module, pattern_modules, data_modules, as_bits}
-use Rattle.symbology.specs.Published.{table1, table1Entries, square_modules, square_bits}
+use Rattle.symbology.specs.Published.{table1, table1_entries, square_modules, square_bits}
 use Rattle.symbology.proofs.Ranges.{and_left, and_right, below_true}
 
 -- the number of Table 1 in row k, counted from 0, and column c
@@ -29,7 +29,7 @@ abbrev right : ℕ → ℕ → Bool
 right k c = modules_right k (k + 1) c && bits_right k (k + 1) c
 
 all_right : all_below 32 (λ k. all_below 4 (right k)) ≡ true
-unfolding all_below lowest table1 table1Entries square_modules square_bits core_table cores_of inner_patterns bits_per_module
+unfolding all_below lowest table1 table1_entries square_modules square_bits core_table cores_of inner_patterns bits_per_module
     pattern_modules data_modules as_bits
 all_right = refl
 

@@ -47,10 +47,10 @@ utf8 c =
     (cond (ltb c 0x800) ((0xC0 + c / 64) ∷ (0x80 + c % 64) ∷ []) ((0xE0 + c / 4096) ∷ (0x80 + c / 64 % 64) ∷ (0x80 + c % 64) ∷ []))
 
 -- the bytes of several characters
-unfoldable pub utf8Bytes : List ℕ → List ℕ
-utf8Bytes [] = []
-utf8Bytes (c ∷ cs) = utf8 c ++ utf8Bytes cs
+unfoldable pub utf8_bytes : List ℕ → List ℕ
+utf8_bytes [] = []
+utf8_bytes (c ∷ cs) = utf8 c ++ utf8_bytes cs
 
 -- the bytes of value v of a mode's characters; none past them
 unfoldable pub character_bytes : List (List ℕ) → ℕ → List ℕ
-character_bytes table v = utf8Bytes (get_or table v [])
+character_bytes table v = utf8_bytes (get_or table v [])

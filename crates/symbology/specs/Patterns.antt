@@ -37,8 +37,8 @@ corner_alignment upper = pattern 1 upper Cyan Yellow
 -- turn 1, and X0 the other way.
 unfoldable pub inner_alignment : ℕ → ℕ → ℕ → Pattern
 inner_alignment turn i j =
-    let likeUL = cond (eqb ((i + j) % 2) 1) (eqb turn 0) (not (eqb turn 0)) in
-    pattern 1 likeUL Yellow Cyan
+    let like_ul = cond (eqb ((i + j) % 2) 1) (eqb turn 0) (not (eqb turn 0)) in
+    pattern 1 like_ul Yellow Cyan
 
 -- the pattern at core number i of p across and j of q down
 unfoldable pub pattern_of : ℕ → ℕ → ℕ → ℕ → ℕ → ℕ → Pattern

@@ -44,12 +44,12 @@ table1 =
     ∷ []
 
 -- Document 01: the list entries that Table 1 counts, in the order of its columns
-unfoldable pub table1Entries : List ℕ
-table1Entries = 35 ∷ 24 ∷ 8 ∷ 24 ∷ []
+unfoldable pub table1_entries : List ℕ
+table1_entries = 35 ∷ 24 ∷ 8 ∷ 24 ∷ []
 
 -- D of the square symbol of a side-version in column c of Table 1: the kind is 0, 0, 1, 1
 unfoldable pub square_modules : ℕ → ℕ → Modules
-square_modules version c = data_modules (c / 2) version version (get_or table1Entries c 0)
+square_modules version c = data_modules (c / 2) version version (get_or table1_entries c 0)
 
 -- C of the same symbol: the colours are 4, 8, 4, 8
 unfoldable pub square_bits : ℕ → ℕ → Bits

@@ -44,7 +44,7 @@ unfoldable pub ends : List (List ℕ) → List ℕ → Bool
 ends cs w = eqb (unmet_count cs w) 0 || eqb (suspect cs w) (length w)
 
 -- The repairs: the bits that the rule turns, in order, in at most n steps. Where no check names a place twice, as no row of A
--- does, each step lowers the unmet count, so that n = unmetCount cs w is enough.
+-- does, each step lowers the unmet count, so that n = unmet_count cs w is enough.
 unfoldable pub repairs : List (List ℕ) → ℕ → List ℕ → List ℕ
 repairs cs zero w = []
 repairs cs (suc n) w =

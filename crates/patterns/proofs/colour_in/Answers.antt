@@ -21,31 +21,31 @@ returns-then-s-d c =
 pub returns-then-not-in_squares : goal.returns-then-not-in_squares
 unfolding colour_in
 returns-then-not-in_squares c =
-    let in-squares = c.in_squares in
+    let inside = c.in_squares in
     let a = c.args in
     let off : ℕ = c.larger-d.result in
     let squares : in_squares a.s.falling a.o a.u ≡ false =
-    sym in-squares.ensures ∙ not-true in-squares.result (ap not c.if-not-in_squares.true) in
+    sym inside.ensures ∙ not-true inside.result (ap not c.if-not-in_squares.true) in
     rw (← (distance (goal.at.returns-then-not-in_squares c).After-larger-d), le-leb off a.s.reach c.if-s-d.false, squares)
 
 pub returns-then-d-eq1 : goal.returns-then-d-eq1
 unfolding colour_in
 returns-then-d-eq1 c =
-    let in-squares = c.in_squares in
+    let inside = c.in_squares in
     let a = c.args in
     let off : ℕ = c.larger-d.result in
     let squares : in_squares a.s.falling a.o a.u ≡ true =
-    sym in-squares.ensures ∙ not-false in-squares.result (ap not c.if-not-in_squares.false) in
+    sym inside.ensures ∙ not-false inside.result (ap not c.if-not-in_squares.false) in
     let within = le-leb off a.s.reach c.if-s-d.false in
     rw (← (distance (goal.at.returns-then-d-eq1 c).After-larger-d), within, squares, eq-eqb off 1 c.if-d-eq1.true)
 
 pub returns : goal.returns
 unfolding colour_in
 returns c =
-    let in-squares = c.in_squares in
+    let inside = c.in_squares in
     let a = c.args in
     let off : ℕ = c.larger-d.result in
     let squares : in_squares a.s.falling a.o a.u ≡ true =
-    sym in-squares.ensures ∙ not-false in-squares.result (ap not c.if-not-in_squares.false) in
+    sym inside.ensures ∙ not-false inside.result (ap not c.if-not-in_squares.false) in
     let within = le-leb off a.s.reach c.if-s-d.false in
     rw (← (distance (goal.at.returns c).After-larger-d), within, squares, ne_eqb off 1 c.if-d-eq1.false)
