@@ -81,7 +81,8 @@ count_back m n rest out h = elim (dec_lt (suc n) 16) [
 
 -- the two switches of a run
 switch_back : (rest out : List ℕ) → read_from Upper Latched (bits 5 31 ++ (bits 2 0 ++ rest)) out ≡ read_from Upper ShortCount rest out
-unfolding switch_of character_count direct_switches more_switches bytes_of characters_of character_bytes upper_characters tabulate utf8_bytes
+unfolding switch_of character_count direct_switches more_switches bytes_of
+    characters_of character_bytes upper_characters tabulate utf8_bytes
 switch_back rest out =
     code_back Upper Latched 31 (bits 2 0 ++ rest) out (omega arith)
     ∙ code_back Upper MoreSwitches 0 rest (out ++ []) (omega arith) ∙ rw (append-nil out, append-nil out)
