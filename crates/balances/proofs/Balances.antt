@@ -1,7 +1,7 @@
 -- The balances of the bits: made check after check, and kept up to date where a mark is turned.
 -- Assumes nothing.
 use Prim.Native.Nat.{ℕ, zero, suc, ◌+◌, ◌-◌, ◌*◌, ◌≤◌, ◌<◌}
-use mathlib.Core.Path.{◌≡◌, refl, sym, ap, ap₂, ◌∙◌, subst}
+use mathlib.Core.Path.{◌≡◌, refl, sym, ap, ap₂, ◌∙◌}
 use mathlib.Core.Bool.{Bool, true, false, cond}
 use mathlib.Core.List.{List, [], ◌∷◌}
 use native.Mathlib.Decide.{ℕ_discrete}
@@ -21,7 +21,7 @@ use Rattle.checks.specs.Checks.{stands_in}
 use Rattle.checks.specs.Votes.{number_of, Votes, Voted}
 use Rattle.checks.proofs.Checks.{ChecksOutside, stands_kept}
 use Rattle.syndrome.specs.Syndrome.{mark_of, MarkBits}
-use Rattle.balances.specs.Balances.{count_with, unmet_with, met_with, BalancedTo, Balanced, Levelled, Weighed, CheckTurned}
+use Rattle.balances.specs.Balances.{count_with, unmet_with, met_with, BalancedTo, Balanced, Levelled, CheckTurned}
 
 -- ---- counts
 
@@ -109,14 +109,6 @@ pub record LevelTo (k n numbers j : ℕ) (before after : List ℕ) : Type 0 wher
   pub changed : Changed (span numbers (numbers + 2 * n) ∷ []) before after
   pub done : (p : ℕ) → p < j → number_at after (numbers + 2 * p) ≡ k
 
-pub level_start : (k n numbers : ℕ) (work : List ℕ) → LevelTo k n numbers 0 work work
-level_start k n numbers work =
-    record {
-      most = omega arith;
-      changed = changed_none (span numbers (numbers + 2 * n) ∷ []) work;
-      done = λ p h. absurd (omega arith);
-    }
-
 pub level_next : {k n numbers j : ℕ} {before after later : List ℕ} → LevelTo k n numbers j before after
     → numbers + 2 * n ≤ length before → j < n → later ≡ stored_number after (numbers + 2 * j) k
     → LevelTo k n numbers (j + 1) before later
@@ -127,10 +119,6 @@ level_next {k} {n} {numbers} {j} {before} {after} r room h e =
       changed = changed_stored r.changed at k (λ o. omega (arith, o.0 (omega arith))) (λ o. omega (arith, o.0 (omega arith)));
       done = number_next (λ p v. v ≡ k) after numbers j k (omega (arith, r.changed.long)) r.done refl;
     }
-
-pub level_all : {a : Areas} {j : ℕ} {before after : List ℕ} → LevelTo a.checks a.gross a.numbers j before after → a.gross ≤ j
-    → Levelled a before after
-level_all r h = record { changed = r.changed; level = λ p l. r.done p (omega arith) }
 
 -- ---- all checks weighed
 
@@ -195,13 +183,6 @@ module _ {a : Areas} {i room : ℕ} {start after : List ℕ} (laid : Laid a room
             (weighed_one (stands_in a after i j) a.checks (mark_of a after i) (number_of a after j) (number_of a later j)
             (met_with a after j i) (unmet_with a after j i)
             (omega arith) (w.balanced j g) (omega (arith, few j)) (v.voted j g) (λ t. ((weighed_votes h).fits j g t).0));
-      }
-
-  pub weighed_all : {before : List ℕ} → Levelled a before start → i ≡ a.checks → Weighed a before after
-  weighed_all l e =
-      record {
-        changed = changed_then l.changed w.changed;
-        balanced = subst (λ (n : ℕ). BalancedTo a n after) e w.balanced;
       }
 
 -- ---- a mark turned

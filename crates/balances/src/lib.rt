@@ -15,13 +15,8 @@ fn level(work: &mut [u8], a: Areas)
     requires { Laid a (length work.old) }
     ensures { Levelled a work.old work.new }
 {
-    let k = a.checks;
-    let n = a.gross;
-    let numbers = a.numbers;
-    let mut j = 0;
-    while j < n {
-        lent::put_number(work, numbers + 2 * j, k);
-        j += 1;
+    for j in 0..a.gross {
+        lent::put_number(work, a.numbers + 2 * j, a.checks);
     }
 }
 
@@ -31,13 +26,9 @@ pub fn weigh(work: &mut [u8], a: Areas)
     ensures { Weighed a work.old work.new }
 {
     level(work, a);
-    let k = a.checks;
-    let marks = a.marks;
-    let mut i = 0;
-    while i < k {
-        let unmet = work[marks + i] as usize;
+    for i in 0..a.checks {
+        let unmet = usize::from(work[a.marks + i]);
         checks::vote(work, a, i, unmet, 1 - unmet);
-        i += 1;
     }
 }
 
@@ -47,7 +38,7 @@ fn turn_check(work: &mut [u8], a: Areas, i: usize)
     ensures { CheckTurned a i work.old work.new }
 {
     let mark = a.marks + i;
-    let unmet = work[mark] as usize;
+    let unmet = usize::from(work[mark]);
     work[mark] = 1 - work[mark];
     checks::vote(work, a, i, 2 - 2 * unmet, 2 * unmet);
 }
@@ -57,9 +48,10 @@ pub fn turn_marks(work: &mut [u8], a: Areas, j: usize)
     requires { Laid a (length work.old) × MarkBits a work.old × Balanced a work.old × (j < a.gross) }
     ensures { MarksTurned a j work.old work.new }
 {
-    let mut i = checks::next_check(work, a, j, 0);
-    while i < a.checks {
+    // The search passes by the checks that the bit does not stand in, so that this is no `for`.
+    let mut from = 0;
+    while let Some(i) = checks::next_check(work, a, j, from) {
         turn_check(work, a, i);
-        i = checks::next_check(work, a, j, i + 1);
+        from = i + 1;
     }
 }

@@ -1,33 +1,26 @@
 -- The bits of a number, one at a time: read from the first to the last, stored from the last to the first.
 -- Assumes nothing.
 use Prim.Native.Nat.{ℕ, zero, suc, ◌+◌, ◌-◌, ◌*◌, ◌/◌, ◌%◌, ◌≤◌, ◌<◌}
-use mathlib.Core.Path.{◌≡◌, refl, ◌∙◌}
+use mathlib.Core.Path.{◌≡◌, ◌∙◌}
 use mathlib.Core.List.{List, [], ◌∷◌, ◌++◌}
 use native.Mathlib.Nat.{add-zero}
 use native.Mathlib.Numerals.{add-one}
 use native.Mathlib.Omega.{arith}
-use lib.ListN.{length, get_or, take, drop, set, length-drop}
+use lib.ListN.{length, get_or, take, set}
 use lib.Pow.{pow_mono}
-use lib.Seq.{take-suc, get_or-drop, set_comm, sets}
+use lib.Seq.{take-suc, set_comm, sets}
 use Rattle.symbology.specs.Bits.{value, bits}
 use Rattle.laws.proofs.Bits.{length_bits, value_snoc, value_take}
 
 -- ---- the number that bits write
 
--- of no bits it is 0
-pub value_none : (bs : List ℕ) → value (take 0 bs) ≡ 0
-unfolding value
-value_none bs = refl
-
 -- each bit doubles it and is added
-pub value_next : (bs : List ℕ) (at i : ℕ) → at + i < length bs
-    → value (take (i + 1) (drop at bs)) ≡ 2 * value (take i (drop at bs)) + get_or bs (at + i) 0 % 2
-value_next bs at i h =
-    rw (add-one i, take-suc (drop at bs) i 0 (omega (arith, length-drop at bs)), value_snoc, get_or-drop)
+pub value_next : (bs : List ℕ) (i : ℕ) → i < length bs → value (take (i + 1) bs) ≡ 2 * value (take i bs) + get_or bs i 0 % 2
+value_next bs i h = rw (add-one i, take-suc bs i 0 h, value_snoc)
 
 -- fewer than sixteen bits write a number below 2 ^ 15
-pub value_small : (i n : ℕ) (bs : List ℕ) → i < n → n ≤ 16 → value (take i bs) < 32768
-value_small i n bs h k =
+pub value_small : (i n : ℕ) (bs : List ℕ) {v : ℕ} → v ≡ value (take i bs) → i < n → n ≤ 16 → v < 32768
+value_small i n bs e h k =
     let few : i ≤ 15 = omega arith in
     omega (arith, value_take i bs, pow_mono few)
 

@@ -5,16 +5,14 @@ ghost use Rattle.std.specs.Prelude.{◌+◌, ◌≤◌, ◌≡◌, length, take,
 ghost use Rattle.std.proofs.lemmas.List.Edits.{sets};
 ghost use Rattle.symbology.specs.Bits.{value, bits};
 
-// The number that the n bits from `at` on write. `left` of them are not read yet.
+// The number that the n bits from `at` on write.
 pub fn bits_value(bits: &[u8], at: usize, n: usize) -> u32
     requires { (at + n ≤ length bits.now) × (n ≤ 16) }
     ensures { result ≡ value (take n (drop at bits.now)) }
 {
-    let mut v = 0u32;
-    let mut left = n;
-    while 0 < left {
-        v = 2 * v + (bits[at + (n - left)] % 2) as u32;
-        left -= 1;
+    let mut v = 0;
+    for bit in &bits[at..at + n] {
+        v = 2 * v + u32::from(bit % 2);
     }
     v
 }
@@ -25,10 +23,8 @@ pub fn put_bits(out: &mut [u8], at: usize, n: usize, v: usize)
     ensures { out.new ≡ sets out.old at (bits n v) }
 {
     let mut rest = v;
-    let mut i = n;
-    while 0 < i {
-        i -= 1;
+    for i in (0..n).rev() {
         out[at + i] = (rest % 2) as u8;
-        rest = rest / 2;
+        rest /= 2;
     }
 }

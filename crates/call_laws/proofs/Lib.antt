@@ -2,6 +2,7 @@
 pub mod Tests
 pub mod Stages
 pub mod Answers
+pub mod Refusals
 pub mod Places
 pub mod RoundTrip
 pub mod Mending

@@ -21,9 +21,8 @@ use Rattle.symbology.proofs.Ranges.{clash}
 use Rattle.laws.proofs.Ranges.{by}
 use Rattle.laws.proofs.Net.{net_back, net_some, any_zeros}
 use Rattle.calls.specs.declared.Counts.{Counts}
-use Rattle.calls.specs.declared.StreamAnswer.{StreamAnswer}
 use Rattle.calls.specs.declared.ReadAnswer.{ReadAnswer}
-use Rattle.calls.specs.Answers.{no_counts, counted, refused, done, from_stream, counts_in, stream_refused, stream_done}
+use Rattle.calls.specs.Answers.{StreamAnswer, no_counts, counted, refused, done, from_stream, counts_in, stream_refused, stream_done}
 use Rattle.calls.specs.Tests.{Row, first_of, passes, spare_one, stuck_word, short_places, size_rows, front_rows}
 use Rattle.calls.specs.Tests.{early_rows, stream_rows, accepted_rows, received_rows, is_legal, reaches_checks}
 use Rattle.calls.specs.Read.{message_in_net, message_in_accepted, stream_answer, answer_from_accepted, mended_counts, answer_from_received}

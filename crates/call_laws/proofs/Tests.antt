@@ -13,8 +13,7 @@ use lib.ListN.{length, get_or}
 use borrow.Author.Tests.{ltb-false, eqb-true, eqb-false, not-true, not-false, le-ltb, eq-eqb}
 use Rattle.symbology.specs.declared.Params.{Params}
 use Rattle.symbology.specs.declared.Sizes.{Sizes}
-use Rattle.symbology.specs.declared.ListVerdict.{ListVerdict}
-use Rattle.symbology.specs.declared.ListVerdict.TheVariants.{Sound, Fault}
+use Rattle.std.specs.Prelude.{Result, Ok, Err}
 use Rattle.symbology.specs.Ranges.{all_hold, lowest, has}
 use Rattle.symbology.specs.Parameters.{in_range}
 use Rattle.symbology.specs.Reserved.{list_verdict, list_number}
@@ -247,12 +246,12 @@ pub record Legal (p : Params) (l : List ℕ) (modules work : ℕ) : Type 0 where
   pub whole : modules ≡ (sizes_for p l).columns * (sizes_for p l).rows
   pub enough : (sizes_for p l).work ≤ work
 
-verdict_sound : (v : ListVerdict) → eqb (list_number v) 2 ≡ false → v ≡ Sound
+verdict_sound : (v : Result (Unit {0}) ℕ) → eqb (list_number v) 2 ≡ false → v ≡ Ok tt
 unfolding list_number
-verdict_sound Sound e = refl
-verdict_sound (Fault k) e = clash refl e
+verdict_sound (Ok s) e = refl
+verdict_sound (Err k) e = clash refl e
 
-sound_verdict : (v : ListVerdict) → v ≡ Sound → eqb (list_number v) 2 ≡ false
+sound_verdict : (v : Result (Unit {0}) ℕ) → v ≡ Ok tt → eqb (list_number v) 2 ≡ false
 unfolding list_number
 sound_verdict v e = rw e refl
 

@@ -5,7 +5,6 @@ use Rattle.symbology.specs.declared.Sizes.{Sizes}
 use Rattle.calls.specs.declared.Answer.{Answer}
 use Rattle.calls.specs.declared.SizesAnswer.{SizesAnswer}
 use Rattle.calls.specs.declared.Counts.{Counts}
-use Rattle.calls.specs.declared.StreamAnswer.{StreamAnswer}
 use Rattle.calls.specs.declared.ReadAnswer.{ReadAnswer}
 
 -- ---- a write
@@ -47,6 +46,11 @@ the_sizes s =
     }
 
 -- ---- the stream of a read
+
+-- what net bits give: document 01's number, 0 or 11 to 14, and the message's length
+pub record StreamAnswer : Type 0 where
+  pub number : ℕ
+  pub length : ℕ
 
 -- a refusal gives no length; none of the numbers of a stream has a place
 abbrev pub stream_refused : ℕ → ℕ → StreamAnswer

@@ -14,9 +14,8 @@ use Rattle.symbology.specs.Stream.{decode}
 use Rattle.symbology.specs.Net.{stream_in}
 use Rattle.symbology.specs.Symbol.{received_word, wrong_stuffing}
 use Rattle.calls.specs.declared.Counts.{Counts}
-use Rattle.calls.specs.declared.StreamAnswer.{StreamAnswer}
 use Rattle.calls.specs.declared.ReadAnswer.{ReadAnswer}
-use Rattle.calls.specs.Answers.{stream_refused, stream_done, counted, refused, from_stream}
+use Rattle.calls.specs.Answers.{StreamAnswer, stream_refused, stream_done, counted, refused, from_stream}
 use Rattle.calls.specs.Tests.{Row, first_of, stuck_word, short_places, spare_one, early_rows, stream_rows, received_rows}
 
 -- ---- the message and the places

@@ -3,11 +3,70 @@
 #![tactic(auto)]
 
 ghost use Rattle.std.specs.Prelude.{◌≡◌};
-ghost use Rattle.calls.specs.Answers.{answer, no_sizes, the_sizes, stream_refused, stream_done, counted, refused, from_stream};
+ghost use Rattle.calls.specs.Refusals.{refusal_number, refusal_place, answer_of, sizes_told, read_told};
+ghost use Rattle.calls.specs.Answers.{refused};
 
 use symbology::Sizes;
 
-// ---- the types
+// ---- refusals
+
+// Why a call is refused: a variant for each number of documents 01 and 02 but the 0 of a call that is done and
+// the 8 that is retired. Two have a place.
+#[derive(Clone, Copy, PartialEq, Eq, Debug)]
+pub enum Refusal {
+    OutOfRange,
+    BadList(usize),
+    BadCapacity,
+    OtherMatrix,
+    ShortWork,
+    NoRoom,
+    BadModule(usize),
+    StuckWord,
+    ShortPlaces,
+    SpareOne,
+    NoEndMark,
+    BadCode,
+    EciOrFnc1,
+    Overfull,
+}
+
+impl Refusal {
+    // Document 01's number.
+    pub fn number(self) -> u32
+        ensures { result ≡ refusal_number self }
+    {
+        match self {
+            Refusal::OutOfRange => 1,
+            Refusal::BadList(_) => 2,
+            Refusal::BadCapacity => 3,
+            Refusal::OtherMatrix => 4,
+            Refusal::ShortWork => 5,
+            Refusal::NoRoom => 6,
+            Refusal::BadModule(_) => 7,
+            Refusal::StuckWord => 9,
+            Refusal::ShortPlaces => 16,
+            Refusal::SpareOne => 10,
+            Refusal::NoEndMark => 11,
+            Refusal::BadCode => 12,
+            Refusal::EciOrFnc1 => 13,
+            Refusal::Overfull => 14,
+        }
+    }
+
+    // Document 01's place.
+    pub fn place(self) -> usize
+        ensures { result ≡ refusal_place self }
+    {
+        match self {
+            Refusal::BadList(entry) => entry,
+            Refusal::BadModule(module) => module,
+            _ => 0,
+        }
+    }
+}
+
+// ---- the types. They hold document 01's number and place and no `Refusal`: the C interface gives these, and the
+// clauses of the calls name them.
 
 // The answer of a write, and of the tests 1 to 5: document 01's number and place.
 #[derive(Clone, Copy)]
@@ -29,13 +88,6 @@ pub struct SizesAnswer {
     pub work: usize,
     pub gross: usize,
     pub checks: usize,
-}
-
-// What net bits gave: document 01's number, 0 or 11 to 14, and the message's length.
-#[derive(Clone, Copy)]
-pub struct StreamAnswer {
-    pub number: u32,
-    pub length: usize,
 }
 
 // The counts that a read hands from stage to stage: the repairs, the number of checks unmet in the
@@ -60,88 +112,91 @@ pub struct ReadAnswer {
 
 // ---- the answers
 
-pub fn answered(number: u32, place: usize) -> Answer
-    ensures { result ≡ answer number place }
-{
-    Answer { number, place }
-}
+impl From<Result<(), Refusal>> for Answer {
+    ghost from_gives = { λ outcome a. a ≡ answer_of outcome };
 
-// A refusal of `sizes`: zeros for the sizes.
-pub fn no_sizes(number: u32, place: usize) -> SizesAnswer
-    ensures { result ≡ no_sizes number place }
-{
-    SizesAnswer {
-        number,
-        place,
-        columns: 0,
-        rows: 0,
-        capacity: 0,
-        net: 0,
-        work: 0,
-        gross: 0,
-        checks: 0,
+    fn from(outcome: Result<(), Refusal>) -> Answer {
+        let (number, place) = match outcome {
+            Ok(_) => (0, 0),
+            Err(refusal) => (refusal.number(), refusal.place()),
+        };
+        Answer { number, place }
     }
 }
 
-pub fn the_sizes(s: Sizes) -> SizesAnswer
-    ensures { result ≡ the_sizes s }
-{
-    SizesAnswer {
-        number: 0,
-        place: 0,
-        columns: s.columns,
-        rows: s.rows,
-        capacity: s.capacity,
-        net: s.net,
-        work: s.work,
-        gross: s.gross,
-        checks: s.checks,
+// A refusal has zeros for the sizes.
+impl From<Result<Sizes, Refusal>> for SizesAnswer {
+    ghost from_gives = { λ outcome a. a ≡ sizes_told outcome };
+
+    fn from(outcome: Result<Sizes, Refusal>) -> SizesAnswer {
+        match outcome {
+            Ok(s) => SizesAnswer {
+                number: 0,
+                place: 0,
+                columns: s.columns,
+                rows: s.rows,
+                capacity: s.capacity,
+                net: s.net,
+                work: s.work,
+                gross: s.gross,
+                checks: s.checks,
+            },
+            Err(refusal) => SizesAnswer {
+                number: refusal.number(),
+                place: refusal.place(),
+                columns: 0,
+                rows: 0,
+                capacity: 0,
+                net: 0,
+                work: 0,
+                gross: 0,
+                checks: 0,
+            },
+        }
     }
 }
 
-pub fn stream_refused(number: u32) -> StreamAnswer
-    ensures { result ≡ stream_refused number 0 }
-{
-    StreamAnswer { number, length: 0 }
-}
-
-pub fn stream_done(length: usize) -> StreamAnswer
-    ensures { result ≡ stream_done length }
-{
-    StreamAnswer { number: 0, length }
-}
-
-// A refusal before the checks: length and counts are 0.
-pub fn refused(number: u32, place: usize) -> ReadAnswer
-    ensures { result ≡ refused number place }
-{
-    ReadAnswer {
-        number,
-        place,
-        length: 0,
-        repairs: 0,
-        unmet: 0,
-        stuffing: 0,
+impl ReadAnswer {
+    // What a read gives, the length of a message or a refusal, with its counts: these are handed on, refused
+    // or not. A refusal has length 0.
+    pub fn new(c: Counts, outcome: Result<usize, Refusal>) -> ReadAnswer
+        ensures { result ≡ read_told c outcome }
+    {
+        let (number, place, length) = match outcome {
+            Ok(length) => (0, 0, length),
+            Err(refusal) => (refusal.number(), refusal.place(), 0),
+        };
+        ReadAnswer {
+            number,
+            place,
+            length,
+            repairs: c.repairs,
+            unmet: c.unmet,
+            stuffing: c.stuffing,
+        }
     }
 }
 
-// What a stream gives a read: the counts are handed on, refused or not.
-pub fn from_stream(c: Counts, a: StreamAnswer) -> ReadAnswer
-    ensures { result ≡ from_stream c a }
-{
-    ReadAnswer {
-        number: a.number,
-        place: 0,
-        length: a.length,
-        repairs: c.repairs,
-        unmet: c.unmet,
-        stuffing: c.stuffing,
+// A refusal before the checks, by its number and place: length and counts are 0.
+impl From<Answer> for ReadAnswer {
+    ghost from_gives = { λ given a. a ≡ refused given.number given.place };
+
+    fn from(given: Answer) -> ReadAnswer {
+        ReadAnswer {
+            number: given.number,
+            place: given.place,
+            length: 0,
+            repairs: 0,
+            unmet: 0,
+            stuffing: 0,
+        }
     }
 }
 
-// A refusal behind the checks: the length is 0.
-pub fn counted(c: Counts, number: u32) -> ReadAnswer
-    ensures { result ≡ counted c number 0 }
-{
-    from_stream(c, stream_refused(number))
+impl From<Refusal> for ReadAnswer {
+    ghost from_gives = { λ refusal a. a ≡ refused (refusal_number refusal) (refusal_place refusal) };
+
+    fn from(refusal: Refusal) -> ReadAnswer {
+        ReadAnswer::from(Answer::from(Err(refusal)))
+    }
 }

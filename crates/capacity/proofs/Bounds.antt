@@ -1,6 +1,6 @@
 -- Bounds on the sizes of a symbol: they all fit their machine numbers.
 -- Assumes nothing.
-use Prim.Native.Nat.{ℕ, ◌+◌, ◌-◌, ◌*◌, ◌/◌, ◌≤◌, ◌<◌}
+use Prim.Native.Nat.{ℕ, ◌+◌, ◌*◌, ◌/◌, ◌≤◌, ◌<◌}
 use mathlib.Core.Path.{◌≡◌}
 use mathlib.Core.Bool.{true}
 use native.Mathlib.Nat.{mul-le-mul, mul-le-mul_left, div-mul-le_self}
@@ -19,27 +19,15 @@ area_most a b p q = omega (arith, mul-le-mul p q)
 pub bits_most : (m depth : ℕ) → m ≤ 21025 → depth ≤ 3 → m * depth ≤ 63075
 bits_most m depth p q = omega (arith, mul-le-mul p q)
 
--- What the code multiplies, of the capacity c and of wc and wr: Pg, K, Pn, and the bytes of A.
-pub record Products (c wc wr : ℕ) : Type 0 where
-  pub gross : c / wr * wr ≤ 63075
-  pub checks : c / wr * wc ≤ 63075
-  pub net : c / wr * (wr - wc) ≤ 63075
-  pub matrix : c / wr * wc * ((c / wr * wr + 7) / 8) ≤ 497346375
-
-pub products_most : (c wc wr : ℕ) → c ≤ 63075 → wc < wr → Products c wc wr
-products_most c wc wr few less =
+-- the bytes of A, of C = c and of wc and wr
+pub matrix_most : (c wc wr : ℕ) → c ≤ 63075 → wc < wr → c / wr * wc * ((c / wr * wr + 7) / 8) ≤ 497346375
+matrix_most c wc wr few less =
     let t : ℕ = c / wr in
     let gross_most : t * wr ≤ 63075 = omega (arith, div-mul-le_self c wr) in
     let checks_less : t * wc ≤ t * wr = mul-le-mul_left t (omega arith) in
-    let net_less : t * (wr - wc) ≤ t * wr = mul-le-mul_left t (omega arith) in
     let checks_most : t * wc ≤ 63075 = omega arith in
     let bytes : (t * wr + 7) / 8 ≤ 7885 = omega arith in
-    record {
-      gross = gross_most;
-      checks = checks_most;
-      net = omega arith;
-      matrix = mul-le-mul checks_most bytes;
-    }
+    mul-le-mul checks_most bytes
 
 -- a symbol with parameters in range has at most 145 × 145 modules
 pub area_small : (p : Params) (listed : ℕ) (s : Sizes) → in_range p ≡ true → s ≡ sizes_of p listed → s.columns * s.rows ≤ 21025

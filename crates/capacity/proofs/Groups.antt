@@ -1,24 +1,13 @@
--- Test 1 in its three groups, and what one failing test of a list says of all.
+-- Test 1 in its three groups, and what a test in the code says of the one that it stands for.
 -- Assumes nothing.
-use Prim.Native.Nat.{ℕ, zero, suc}
 use mathlib.Core.Path.{◌≡◌, refl, sym, ap, ◌∙◌}
 use mathlib.Core.Bool.{Bool, true, false, not, ◌&&◌}
 use mathlib.Core.List.{List, [], ◌∷◌, ◌++◌}
-use lib.ListN.{get_or}
 use borrow.Author.Tests.{not-true, not-false}
 use Rattle.symbology.specs.declared.Params.{Params}
 use Rattle.symbology.specs.Ranges.{all_hold}
 use Rattle.symbology.specs.Parameters.{range_tests, in_range}
-use Rattle.symbology.proofs.Ranges.{clash}
 use Rattle.capacity.specs.Groups.{side_tests, colour_tests, code_tests}
-
--- where the test at one place fails, not all hold
-pub one_fails : (ts : List Bool) (i : ℕ) → get_or ts i true ≡ false → false ≡ all_hold ts
-unfolding all_hold
-one_fails [] i e = clash refl e
-one_fails (t ∷ ts) zero e = rw e
-one_fails (true ∷ ts) (suc i) e = one_fails ts i e
-one_fails (false ∷ ts) (suc i) e = refl
 
 -- the test t whose value r a call gave, where the code then tests `!` of r: it failed
 pub refused : {t r : Bool} → r ≡ t → not r ≡ true → t ≡ false

@@ -1,4 +1,3 @@
 pub mod Groups
 pub mod Bounds
-pub mod Counts
 pub mod Depth

@@ -1,17 +1,14 @@
 -- The columns of Table 12 as the code keeps them, in bytes, against the definitions, in Unicode numbers.
 -- Assumes nothing.
-use Prim.Native.Nat.{ℕ, zero, suc, ◌+◌, ◌-◌, ◌≤◌, ◌<◌}
+use Prim.Native.Nat.{ℕ, zero, suc, ◌≤◌, ◌<◌}
 use mathlib.Core.Path.{◌≡◌, refl, sym, ap, ◌∙◌}
-use mathlib.Core.Bool.{Bool, true, cond, ◌&&◌}
+use mathlib.Core.Bool.{Bool, true, ◌&&◌}
 use mathlib.Core.List.{List, [], ◌∷◌, ◌++◌, map}
 use native.Mathlib.Omega.{arith}
-use lib.Dec.{ltb, eqb}
-use lib.ListN.{length, get_or, take, drop, length-map, get_or-append, get_or-eq_default}
-use borrow.Author.Tests.{ne_eqb}
-use Rattle.symbology.specs.Ranges.{tabulate}
+use lib.Dec.{ltb}
+use lib.ListN.{length, take, drop, length-map, get_or-append, get_or-eq_default}
 use Rattle.symbology.specs.Characters.{mixed_characters, utf8, utf8_bytes, character_bytes}
 use Rattle.symbology.proofs.Ranges.{and_left, and_right}
-use Rattle.laws.proofs.Ranges.{get_d_tabulate}
 
 -- ---- characters of the 7-bit set
 
@@ -48,28 +45,19 @@ past_mixed v h = sym (ap utf8_bytes (get_or-eq_default mixed_characters [] {n = 
 
 -- ---- the mixed characters of several bytes, from value 19 on
 
--- their first and second bytes
-abbrev pub mixed_first : List ℕ
-mixed_first = 10 ∷ 44 ∷ 46 ∷ 58 ∷ 0xE2 ∷ 0xC2 ∷ 0xC3 ∷ 0xC3 ∷ 0xC3 ∷ 0xC3 ∷ 0xC3 ∷ 0xC3 ∷ 0xC3 ∷ []
-
-abbrev pub mixed_second : List ℕ
-mixed_second = 13 ∷ 32 ∷ 32 ∷ 32 ∷ 0x82 ∷ 0xA7 ∷ 0x84 ∷ 0x96 ∷ 0x9C ∷ 0x9F ∷ 0xA4 ∷ 0xB6 ∷ 0xBC ∷ []
-
--- number i of them but the euro sign, which is number 4 and has three
-pair : ℕ → List ℕ
-pair i = cond (eqb i 4) (character_bytes mixed_characters 23) (get_or mixed_first i 0 ∷ get_or mixed_second i 0 ∷ [])
-
-pairs : tabulate 13 pair ≡ tabulate 13 (λ i. character_bytes mixed_characters (19 + i))
-unfolding tabulate pair mixed_characters character_bytes utf8_bytes utf8
-pairs = refl
-
-pub two_of : (v : ℕ) → 19 ≤ v → v < 32 → (v ≡ 23 → ⊥)
-    → get_or mixed_first (v - 19) 0 ∷ get_or mixed_second (v - 19) 0 ∷ [] ≡ character_bytes mixed_characters v
-unfolding pair
-two_of v least most other =
-    let i : ℕ = v - 19 in
-    let inside : i < 13 = omega arith in
-    let back : 19 + i ≡ v = omega arith in
-    rw (ne_eqb i 4 (λ e. other (omega arith))) at (sym (get_d_tabulate 13 pair [] i inside))
-    ∙ ap (λ (l : List (List ℕ)). get_or l i []) pairs ∙ get_d_tabulate 13 (λ j. character_bytes mixed_characters (19 + j)) [] i inside
-    ∙ ap (character_bytes mixed_characters) back
+pub mixed_several :
+    (character_bytes mixed_characters 19 ≡ 10 ∷ 13 ∷ [])
+    × (character_bytes mixed_characters 20 ≡ 44 ∷ 32 ∷ [])
+    × (character_bytes mixed_characters 21 ≡ 46 ∷ 32 ∷ [])
+    × (character_bytes mixed_characters 22 ≡ 58 ∷ 32 ∷ [])
+    × (character_bytes mixed_characters 23 ≡ 0xE2 ∷ 0x82 ∷ 0xAC ∷ [])
+    × (character_bytes mixed_characters 24 ≡ 0xC2 ∷ 0xA7 ∷ [])
+    × (character_bytes mixed_characters 25 ≡ 0xC3 ∷ 0x84 ∷ [])
+    × (character_bytes mixed_characters 26 ≡ 0xC3 ∷ 0x96 ∷ [])
+    × (character_bytes mixed_characters 27 ≡ 0xC3 ∷ 0x9C ∷ [])
+    × (character_bytes mixed_characters 28 ≡ 0xC3 ∷ 0x9F ∷ [])
+    × (character_bytes mixed_characters 29 ≡ 0xC3 ∷ 0xA4 ∷ [])
+    × (character_bytes mixed_characters 30 ≡ 0xC3 ∷ 0xB6 ∷ [])
+    × (character_bytes mixed_characters 31 ≡ 0xC3 ∷ 0xBC ∷ [])
+unfolding mixed_characters character_bytes utf8_bytes utf8
+mixed_several = (refl, refl, refl, refl, refl, refl, refl, refl, refl, refl, refl, refl, refl)

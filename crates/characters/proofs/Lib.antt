@@ -1,3 +1,2 @@
--- Lemmas of the code: the columns of Table 12, and the bytes of a code.
+-- Lemmas of the code: the columns of Table 12.
 pub mod Columns
-pub mod Bytes

@@ -1,12 +1,10 @@
--- The bytes of a code, at most three, as a function hands them on.
+-- The bytes of a code.
 -- Assumes nothing.
-use Rattle.std.specs.Prelude.{ℕ, List, [], ◌∷◌, length, get_or, take}
+use Rattle.std.specs.Prelude.{ℕ, List, [], ◌∷◌}
 use Rattle.characters.specs.declared.CodeBytes.{CodeBytes}
+use Rattle.characters.specs.declared.CodeBytes.TheVariants.{Character, Byte}
 
--- a list of at most three bytes, with zeros where it has none
-abbrev pub code_bytes : List ℕ → CodeBytes
-code_bytes bs = record { count = length bs; first = get_or bs 0 0; second = get_or bs 1 0; third = get_or bs 2 0 }
-
--- the bytes again: the first `count` of the three
+-- those of a character of Table 12, or the byte of a run
 abbrev pub bytes_in : CodeBytes → List ℕ
-bytes_in b = take b.count (b.first ∷ b.second ∷ b.third ∷ [])
+bytes_in (Character bytes) = bytes.now
+bytes_in (Byte byte) = byte ∷ []

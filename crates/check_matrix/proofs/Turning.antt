@@ -19,7 +19,7 @@ use Rattle.lent.proofs.Changes.{changed_none, changed_wider, changed_then, outsi
 use Rattle.lent.proofs.Work.{marks_inside}
 use Rattle.dense.specs.Dense.{dense_bits, Turned}
 use Rattle.dense.proofs.Dense.{row_gap, column_inside, bit_inside}
-use Rattle.check_matrix.specs.Build.{BlockFits, BlockTurned}
+use Rattle.check_matrix.specs.Build.{BlockFits}
 
 -- the row in which the block has its 1 of a column
 abbrev one_row : Areas → ℕ → ℕ → List ℕ → ℕ → ℕ
@@ -107,15 +107,4 @@ module _ {a : Areas} {wr first j : ℕ} {before after : List ℕ} {room : ℕ} (
             ∙ ap (xor (dense_bits after stride i c)) (and-false (eqb i row))
             ∙ xor_none (dense_bits after stride i c)
             ∙ r.past i c g k;
-      }
-
-  pub turning_done : a.gross ≤ j → BlockTurned a wr first before after
-  turning_done h =
-      record {
-        changed = r.changed;
-        bits = λ i g c k.
-            r.bits i c k
-            ∙ ap (λ (b : Bool). xor (dense_bits before a.stride i c) (b && eqb i (one_row a wr first before c)))
-            (lt-ltb c j (omega arith));
-        past = r.past;
       }

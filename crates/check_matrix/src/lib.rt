@@ -14,13 +14,9 @@ fn turn_block(work: &mut [u8], a: Areas, wr: usize, first: usize)
     requires { Laid a (length work.old) × BlockFits a wr first work.old }
     ensures { BlockTurned a wr first work.old work.new }
 {
-    let stride = a.stride;
-    let numbers = a.numbers;
-    let mut j = 0;
-    while j < a.gross {
-        let c = lent::number_at(work, numbers + 2 * j);
-        dense::turn(work, stride, first + c / wr, j);
-        j += 1;
+    for j in 0..a.gross {
+        let c = lent::number_at(work, a.numbers + 2 * j);
+        dense::turn(work, a.stride, first + c / wr, j);
     }
 }
 
@@ -29,16 +25,12 @@ pub fn build(work: &mut [u8], a: Areas, t: usize, wc: usize, wr: usize)
     requires { Laid a (length work.old) × (a.gross ≡ t * wr) × (a.checks ≡ t * wc) × (0 < wr) }
     ensures { Built a t wc wr work.old work.new }
 {
-    let n = a.gross;
-    let numbers = a.numbers;
     lent::clear(work, 0, a.checks * a.stride);
-    lent::count_up(work, numbers, n);
+    lent::count_up(work, a.numbers, a.gross);
     // The seed for message data.
     let mut state = 785465;
-    let mut block = 0;
-    while block < wc {
-        state = shuffle::shuffle_numbers(work, numbers, n, state);
+    for block in 0..wc {
+        state = shuffle::shuffle_numbers(work, a.numbers, a.gross, state);
         turn_block(work, a, wr, block * t);
-        block += 1;
     }
 }

@@ -1,17 +1,19 @@
 -- The checks in the work buffer: they stay where their area does, and a staged word is judged by parities.
 -- Assumes nothing.
-use Prim.Native.Nat.{ℕ, ◌+◌, ◌*◌, ◌%◌, ◌≤◌, ◌<◌}
-use mathlib.Core.Path.{◌≡◌, sym, ap, ap₂, ◌∙◌}
-use mathlib.Core.Bool.{◌&&◌}
+use Prim.Native.Nat.{ℕ, ◌+◌, ◌-◌, ◌*◌, ◌%◌, ◌≤◌, ◌<◌}
+use mathlib.Core.Path.{◌≡◌, refl, sym, ap, ap₂, ◌∙◌}
+use mathlib.Core.Bool.{Bool, ◌&&◌}
 use mathlib.Core.List.{List, [], ◌∷◌}
 use native.Mathlib.Omega.{arith}
 use lib.Dec.{ltb, eqb}
 use lib.ListN.{length}
-use Rattle.symbology.specs.Ranges.{tally}
+use Rattle.std.specs.Prelude.{Option, Some, None, MatchOption}
+use borrow.Author.Tests.{lt-ltb, le-ltb}
+use Rattle.symbology.specs.Ranges.{tally, lowest, found}
 use Rattle.symbology.specs.Matrix.{check_of}
 use Rattle.symbology.specs.Rule.{unmet}
 use Rattle.laws.specs.Gf2.{dot}
-use Rattle.laws.proofs.Ranges.{those_ext}
+use Rattle.laws.proofs.Ranges.{those_ext, lowest_none, lowest_is}
 use Rattle.laws.proofs.Agree.{checks_same}
 use Rattle.lent.specs.declared.Areas.{Areas}
 use Rattle.lent.specs.Changes.{Span, Outside, Changed}
@@ -19,7 +21,7 @@ use Rattle.lent.specs.Work.{marks_span, Laid}
 use Rattle.lent.proofs.Work.{word_kept}
 use Rattle.dense.specs.Dense.{dense_bits}
 use Rattle.dense.proofs.Dense.{row_same, rows_kept, packed_unmet}
-use Rattle.checks.specs.Checks.{stands_in, checks_span, checks_in, unmet_in, Staged}
+use Rattle.checks.specs.Checks.{stands_in, checks_span, checks_in, unmet_in, InNoCheck, NextCheck, Staged}
 
 -- the checks lie outside these spans
 abbrev pub ChecksOutside : Areas → List Span → Type 0
@@ -61,3 +63,18 @@ staged_kept {a} {before = before} {after = after} laid c p j h =
     row_same before after a.stride a.checks j h (λ q l g. c.kept q (omega arith))
     ∙ p j h
     ∙ ap (λ (v : ℕ). ltb j a.gross && eqb (v % 2) 1) (sym (c.kept (a.word + j) (omega arith)))
+
+-- What a search for a check answers is what the search over the numbers of the checks is defined to find.
+pub next_lowest : (a : Areas) (work : List ℕ) (j from : ℕ) (r : Option ℕ) → from ≤ a.checks
+    → MatchOption r (InNoCheck a work j from a.checks) (NextCheck a work j from)
+    → r ≡ found a.checks (lowest (λ i. stands_in a work i j) (a.checks - from) from)
+next_lowest a work j from None le none =
+    let f : ℕ → Bool = λ i. stands_in a work i j in
+    let n : ℕ = a.checks - from in
+    let end : a.checks ≤ lowest f n from = omega (arith, lowest_none f n from (λ i b c. none i b (omega arith))) in
+    rw (le-ltb (lowest f n from) a.checks end) refl
+next_lowest a work j from (Some i) le next =
+    let f : ℕ → Bool = λ i. stands_in a work i j in
+    let is : lowest f (a.checks - from) from ≡ i =
+    lowest_is f (a.checks - from) from i next.least (omega (arith, next.inside)) next.none_before (λ h. next.there) in
+    rw (is, lt-ltb i a.checks next.inside) refl

@@ -1,7 +1,8 @@
 -- A check that votes on the numbers of its bits, column after column of its row.
 -- Assumes nothing.
+use Rattle.std.proofs.Common.{min}
 use Prim.Native.Nat.{ℕ, ◌+◌, ◌-◌, ◌*◌, ◌/◌, ◌%◌, ◌≤◌, ◌<◌}
-use mathlib.Core.Path.{◌≡◌, refl, sym, ap, ◌∙◌}
+use mathlib.Core.Path.{◌≡◌, sym, ap, ◌∙◌}
 use mathlib.Core.Bool.{true, false, cond}
 use mathlib.Core.List.{List, [], ◌∷◌}
 use native.Mathlib.Decide.{dec_lt}
@@ -11,7 +12,7 @@ use Rattle.lent.specs.declared.Areas.{Areas}
 use Rattle.lent.specs.Changes.{span, Changed}
 use Rattle.lent.specs.Buffer.{number_at, stored_number}
 use Rattle.lent.specs.Work.{Laid}
-use Rattle.lent.proofs.Changes.{changed_none, changed_stored, number_other, number_next}
+use Rattle.lent.proofs.Changes.{changed_stored, number_other, number_next}
 use Rattle.dense.specs.Dense.{byte_bit, dense_bits}
 use Rattle.dense.proofs.Dense.{zero_bit, rows_kept}
 use Rattle.checks.specs.Checks.{stands_in}
@@ -28,22 +29,12 @@ pub record VotedTo (n stride numbers i add sub j : ℕ) (before after : List ℕ
   pub done : (p : ℕ) → p < j → p < n → number_at after (numbers + 2 * p) ≡ voted_number stride numbers i add sub before p
   pub rest : (p : ℕ) → j ≤ p → p < n → number_at after (numbers + 2 * p) ≡ number_at before (numbers + 2 * p)
 
-pub voted_start : (n stride numbers i add sub : ℕ) (work : List ℕ) → VotedTo n stride numbers i add sub 0 work work
-voted_start n stride numbers i add sub work =
-    record {
-      changed = changed_none (span numbers (numbers + 2 * n) ∷ []) work;
-      done = λ p h g. absurd (omega arith);
-      rest = λ p h g. refl;
-    }
-
 -- a row has no bit in a byte of 0
-none_in : (s i j p : ℕ) (work : List ℕ) → get_or work (i * s + j / 8) 0 ≡ 0 → j ≤ p → p < 8 * (j / 8) + 8
-    → dense_bits work s i p ≡ false
+none_in : (s i b p : ℕ) (work : List ℕ) → get_or work (i * s + b) 0 ≡ 0 → 8 * b ≤ p → p < 8 * (b + 1) → dense_bits work s i p ≡ false
 unfolding dense_bits
-none_in s i j p work e h g =
-    let same : p / 8 ≡ j / 8 = omega arith in
-    let byte : get_or work (i * s + p / 8) 0 ≡ 0 = ap (λ (b : ℕ). get_or work (i * s + b) 0) same ∙ e in
-    ap (λ (v : ℕ). byte_bit v (p % 8)) byte ∙ zero_bit (p % 8)
+none_in s i b p work e h g =
+    let here : p / 8 ≡ b = omega arith in
+    rw here (ap (λ (v : ℕ). byte_bit v (p % 8)) e ∙ zero_bit (p % 8))
 
 module _ {n stride numbers i add sub j : ℕ} {before after : List ℕ} (v : VotedTo n stride numbers i add sub j before after) where
   -- the bit stands in the check
@@ -101,7 +92,15 @@ module _ {a : Areas} {i add sub j : ℕ} {before after : List ℕ} (laid : Laid 
       let fits = votes.fits j h (sym (voted_row j h) ∙ t) in
       (omega (arith, fits.0, v.rest j (omega arith) h), omega (arith, fits.1, v.rest j (omega arith) h))
 
-  -- a byte of 0 is passed by
-  pub voted_skip : get_or after (i * a.stride + j / 8) 0 ≡ 0
-      → VotedTo a.gross a.stride a.numbers i add sub (8 * (j / 8) + 8) before after
-  voted_skip e = voted_none v (omega arith) (λ p l m g. sym (voted_row p g) ∙ none_in a.stride i j p after e l m) refl
+-- a byte of 0 is passed by
+pub voted_skip : {a : Areas} {i add sub : ℕ} (b : ℕ) {before after later : List ℕ} → Laid a (length before) → i < a.checks
+    → VotedTo a.gross a.stride a.numbers i add sub (8 * b) before after → get_or after (i * a.stride + b) 0 ≡ 0 → later ≡ after
+    → VotedTo a.gross a.stride a.numbers i add sub (8 * (b + 1)) before later
+voted_skip {a} {i} b {after = after} laid inside v none e =
+    voted_none v (omega arith) (λ p l m g. sym (voted_row laid inside v p g) ∙ none_in a.stride i b p after none l m) e
+
+-- the columns of a byte are voted on
+pub voted_byte : {n stride numbers i add sub j : ℕ} (b : ℕ) {before after later : List ℕ}
+    → VotedTo n stride numbers i add sub j before after → j ≤ 8 * (b + 1) → min n (8 * b + 8) ≤ j → later ≡ after
+    → VotedTo n stride numbers i add sub (8 * (b + 1)) before later
+voted_byte b v most all e = voted_none v most (λ p l m g. absurd (omega arith)) e

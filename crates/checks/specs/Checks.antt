@@ -1,6 +1,6 @@
 -- The checks in the work buffer, as judging and mending see them. Checks and bits count from 0.
 -- Assumes nothing.
-use Rattle.std.specs.Prelude.{ℕ, ◌<◌, ◌≡◌, List, [], ◌∷◌}
+use Rattle.std.specs.Prelude.{ℕ, ◌≤◌, ◌<◌, ◌≡◌, true, false, List, [], ◌∷◌}
 use Rattle.symbology.specs.Matrix.{BitMatrix, check_of, checks_of}
 use Rattle.symbology.specs.Rule.{unmet}
 use Rattle.lent.specs.declared.Areas.{Areas}
@@ -23,6 +23,17 @@ checks_in a work = checks_of a.checks a.gross (stands_in a work)
 -- 1 where check i is unmet in the word, else 0
 abbrev pub unmet_in : Areas → List ℕ → ℕ → ℕ
 unmet_in a work i = unmet (check_of a.gross (stands_in a work) i) (word_in a work)
+
+-- bit j stands in no check from `from` up to `to`
+abbrev pub InNoCheck : Areas → List ℕ → ℕ → ℕ → ℕ → Type 0
+InNoCheck a work j from to = (i : ℕ) → from ≤ i → i < to → stands_in a work i j ≡ false
+
+-- check i is the first from `from` on that bit j stands in
+pub record NextCheck (a : Areas) (work : List ℕ) (j from i : ℕ) : Type 0 where
+  pub least : from ≤ i
+  pub inside : i < a.checks
+  pub there : stands_in a work i j ≡ true
+  pub none_before : InNoCheck a work j from i
 
 -- the checks are those of a matrix
 abbrev pub HoldsChecks : Areas → BitMatrix → List ℕ → Type 0

@@ -2,28 +2,19 @@
 // matrix through this crate alone; behind it lie the dense rows.
 #![tactic(auto)]
 
-ghost use Rattle.std.specs.Prelude.{◌-◌, ◌≤◌, ◌<◌, ◌≡◌, length};
-ghost use Rattle.symbology.specs.Ranges.{lowest};
+ghost use Rattle.std.specs.Prelude.{◌≤◌, ◌<◌, ◌≡◌, length, MatchOption};
 ghost use Rattle.lent.specs.Work.{Laid};
-ghost use Rattle.checks.specs.Checks.{stands_in, unmet_in, Staged, WordStaged};
+ghost use Rattle.checks.specs.Checks.{unmet_in, InNoCheck, NextCheck, Staged, WordStaged};
 ghost use Rattle.checks.specs.Votes.{Votes, Voted};
 
 use lent::Areas;
 
-// The first check from `from` on that bit j stands in, and the number of checks where there is none.
-pub fn next_check(work: &[u8], a: Areas, j: usize, from: usize) -> usize
+// The first check from `from` on that bit j stands in, where there is one.
+pub fn next_check(work: &[u8], a: Areas, j: usize, from: usize) -> Option<usize>
     requires { Laid a (length work.now) × (j < a.gross) × (from ≤ a.checks) }
-    ensures { result ≡ lowest (λ i. stands_in a work.now i j) (a.checks - from) from }
+    ensures { MatchOption result (InNoCheck a work.now j from a.checks) (NextCheck a work.now j from) }
 {
-    let stride = a.stride;
-    let mut i = from;
-    while i < a.checks {
-        if dense::bit(work, stride, i, j) {
-            return i;
-        }
-        i += 1;
-    }
-    i
+    (from..a.checks).find(|&i| dense::bit(work, a.stride, i, j))
 }
 
 // Makes the word ready to be judged: stores it as the row behind the rows.
@@ -34,7 +25,8 @@ pub fn stage_word(work: &mut [u8], a: Areas)
     dense::pack(work, a.stride, a.checks, a.word, a.gross);
 }
 
-// Whether check i is unmet (1) or not (0) in the word, which is staged.
+// The mark of check i in the word, which is staged: 1 where it is unmet and 0 where it is met, as a byte of the
+// work buffer keeps it.
 pub fn unmet_of(work: &[u8], a: Areas, i: usize) -> u8
     requires { Laid a (length work.now) × (i < a.checks) × Staged a work.now }
     ensures { result ≡ unmet_in a work.now i }
@@ -48,21 +40,16 @@ pub fn vote(work: &mut [u8], a: Areas, i: usize, add: usize, sub: usize)
     requires { Laid a (length work.old) × (i < a.checks) × Votes a i add sub work.old }
     ensures { Voted a i add sub work.old work.new }
 {
-    let n = a.gross;
-    let stride = a.stride;
-    let numbers = a.numbers;
-    let row = i * stride;
-    let mut j = 0;
-    while j < n {
-        if work[row + j / 8] == 0 {
-            j = 8 * (j / 8) + 8;
-        } else {
-            if dense::bit(work, stride, i, j) {
-                let at = numbers + 2 * j;
-                let number = lent::number_at(work, at);
-                lent::put_number(work, at, number + add - sub);
+    let row = i * a.stride;
+    for b in 0..a.gross.div_ceil(8) {
+        if work[row + b] != 0 {
+            for j in 8 * b..a.gross.min(8 * b + 8) {
+                if dense::bit(work, a.stride, i, j) {
+                    let at = a.numbers + 2 * j;
+                    let number = lent::number_at(work, at);
+                    lent::put_number(work, at, number + add - sub);
+                }
             }
-            j += 1;
         }
     }
 }

@@ -13,10 +13,6 @@ use lent::Areas;
 use std::io;
 use symbology::Sizes;
 
-fn print_line(rt: &impl Print, n: usize) -> io::Result<()> {
-    println!(rt; "{n}")
-}
-
 // The sizes of a primary symbol of side-version 1 with 8 colours, 24 entries, wc 3 and wr 9: 1,047 bits.
 fn known_sizes() -> Sizes
     ensures { CodeSizes result × (result.work ≡ 53964) × (result.gross ≡ 116 * 9) × (result.checks ≡ 116 * 3) }
@@ -41,7 +37,7 @@ fn print_row(rt: &impl Print, work: &[u8], a: Areas, row: usize) -> io::Result<(
 {
     for j in 0..a.gross {
         if dense::bit(work, a.stride, row, j) {
-            print_line(rt, j)?;
+            println!(rt; "{j}")?;
         }
     }
     Ok(())
@@ -52,9 +48,10 @@ fn print_rows(rt: &impl Print, work: &mut [u8]) -> io::Result<()>
 {
     let a = lent::areas_for(known_sizes());
     check_matrix::build(work, a, 116, 3, 9);
-    print_row(rt, work, a, 0)?;
-    print_row(rt, work, a, 116)?;
-    print_row(rt, work, a, 232)
+    for block in 0..3 {
+        print_row(rt, work, a, 116 * block)?;
+    }
+    Ok(())
 }
 
 // Prints the first n numbers of two bytes.
@@ -62,7 +59,8 @@ fn print_numbers(rt: &impl Print, work: &[u8], n: usize) -> io::Result<()>
     requires { 2 * n ≤ length work.now }
 {
     for i in 0..n {
-        print_line(rt, lent::number_at(work, 2 * i))?;
+        let n = lent::number_at(work, 2 * i);
+        println!(rt; "{n}")?;
     }
     Ok(())
 }
@@ -76,9 +74,10 @@ fn print_interleaving(rt: &impl Print, work: &mut [u8]) -> io::Result<()>
     print_numbers(rt, work, 6)
 }
 
+// Prints bytes, a number to a line: the format is a literal, and other programs have other ones.
 fn print_bytes(rt: &impl Print, bytes: &[u8]) -> io::Result<()> {
     for b in bytes {
-        print_line(rt, usize::from(*b))?;
+        println!(rt; "{b}")?;
     }
     Ok(())
 }

@@ -16,7 +16,7 @@ use Rattle.lent.specs.Work.{word_span, Laid, net_in}
 use Rattle.lent.proofs.Buffer.{part_at, part_past}
 use Rattle.lent.proofs.Changes.{changed_none, changed_wider, changed_set}
 use Rattle.lent.proofs.Work.{net_inside}
-use Rattle.codeword.specs.Columns.{is_message, placed_bit, Placed}
+use Rattle.codeword.specs.Columns.{is_message, placed_bit}
 use Rattle.codeword.proofs.Columns.{message_kept}
 
 -- one more number at which the test holds, or none
@@ -90,7 +90,3 @@ module _ {a : Areas} {before after : List ℕ} {j m : ℕ} (laid : Laid a (lengt
       let t' : is_message a before j ≡ false = sym kind ∙ t in
       stored m' v (e ∙ s.counted ∙ sym (count_out (is_message a before) j t'))
       (f ∙ sym (ap (λ (b : Bool). cond b (get_or (net_in a before) (length (those j (is_message a before))) 0) 0) t'))
-
--- all columns are stored
-pub placed_all : {a : Areas} {before after : List ℕ} {m : ℕ} → PlacedTo a before after a.gross m → Placed a before after
-placed_all s = record { changed = s.changed; placed = s.passed }

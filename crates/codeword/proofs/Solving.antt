@@ -24,7 +24,7 @@ use Rattle.lent.specs.declared.Areas.{Areas}
 use Rattle.lent.specs.Changes.{Changed}
 use Rattle.lent.specs.Work.{word_row_span, word_span, Laid, word_in, net_in}
 use Rattle.lent.proofs.Buffer.{length_part, part_at, part_past}
-use Rattle.lent.proofs.Changes.{changed_none, changed_wider, changed_set, changed_then}
+use Rattle.lent.proofs.Changes.{changed_wider, changed_set, changed_then}
 use Rattle.lent.proofs.Work.{word_inside}
 use Rattle.dense.specs.Dense.{dense_bits, Turned, Packed, PackedIn}
 use Rattle.dense.proofs.Dense.{in_row, row_same}
@@ -46,16 +46,6 @@ pub record SolvedTo (a : Areas) (before after : List ℕ) (c : ℕ) : Type 0 whe
   pub rest : (d : ℕ) → c ≤ d → get_or after (a.word + d) 0 ≡ get_or before (a.word + d) 0
   pub passed : (d : ℕ) → d < c → is_message a before d ≡ false
       → get_or after (a.word + d) 0 ≡ tally (dot d (row_bits a before d) (word_bit a after))
-
-pub solved_start : (a : Areas) (work : List ℕ) → Packed a.stride a.checks a.word a.gross work → SolvedTo a work work 0
-solved_start a work p =
-    record {
-      changed = changed_none (word_row_span a ∷ word_span a ∷ []) work;
-      packed = p;
-      kept = λ d h t. refl;
-      rest = λ d h. refl;
-      passed = λ d h. absurd (omega arith);
-    }
 
 module _ {a : Areas} {before after : List ℕ} {c : ℕ} (laid : Laid a (length before)) (s : SolvedTo a before after c)
     (h : c < a.gross) where
@@ -202,10 +192,6 @@ module _ {a : Areas} {before after : List ℕ} {c : ℕ} (laid : Laid a (length 
 -- a state under another name
 pub solved_as : {a : Areas} {before after after' : List ℕ} {c : ℕ} → SolvedTo a before after c → after' ≡ after → SolvedTo a before after' c
 solved_as s e = rw e s
-
--- all columns are passed
-pub solved_all : {a : Areas} {before after : List ℕ} → SolvedTo a before after a.gross → Solved a before after
-solved_all s = record { changed = s.changed; kept = s.kept; solved = s.passed }
 
 -- ---- the codeword
 

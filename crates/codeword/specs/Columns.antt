@@ -1,6 +1,7 @@
 -- Message and check columns of the work buffer, as the numbers of an elimination tell them apart, and words stored and read by them.
 -- Assumes nothing.
 use Rattle.std.specs.Prelude.{ℕ, ◌+◌, ◌%◌, ◌<◌, ◌≡◌, Bool, true, false, cond, List, [], ◌∷◌, leb, eqb, length, get_or, take, drop}
+use Rattle.std.specs.Prelude.{Option, MatchOption}
 use Rattle.symbology.specs.Bits.{any_one}
 use Rattle.symbology.specs.Ranges.{tally, those}
 use Rattle.symbology.specs.Matrix.{BitMatrix}
@@ -15,6 +16,11 @@ use Rattle.elimination.specs.Reduced.{row_of, EliminatedFrom}
 -- a column without a row is a message column
 abbrev pub is_message : Areas → List ℕ → ℕ → Bool
 is_message a work j = leb a.checks (row_of a work j)
+
+-- the row is the pivot row of a check column, and there is none in a message column
+abbrev pub IsPivotRow : Areas → List ℕ → ℕ → Option ℕ → Type 0
+IsPivotRow a work c row =
+    MatchOption row (is_message a work c ≡ true) (λ i. (is_message a work c ≡ false) × (i ≡ row_of a work c) × (i < a.checks))
 
 -- the row of a check column is 0 behind it
 abbrev pub RowsEnd : Areas → List ℕ → Type 0

@@ -2,37 +2,39 @@
 // and the check columns solved, and the message columns of a word read back.
 #![tactic(auto)]
 
-ghost use Rattle.std.specs.Prelude.{length};
+ghost use Rattle.std.specs.Prelude.{◌<◌, length};
 ghost use Rattle.symbology.specs.Bits.{AllBits};
 ghost use Rattle.lent.specs.Work.{Laid, net_in};
 ghost use Rattle.dense.specs.Dense.{Packed};
 ghost use Rattle.elimination.specs.Reduced.{HoldsElimination};
-ghost use Rattle.codeword.specs.Columns.{RowsEnd, ChecksZero, Placed, Solved, WordFilled, MessageRead};
+ghost use Rattle.codeword.specs.Columns.{IsPivotRow, RowsEnd, ChecksZero, Placed, Solved, WordFilled, MessageRead};
 
 use lent::Areas;
+
+// The pivot row of a check column. A message column has none, and the number of rows stands there.
+fn pivot_row(work: &[u8], a: Areas, c: usize) -> Option<usize>
+    requires { Laid a (length work.now) × (c < a.gross) }
+    ensures { IsPivotRow a work.now c result }
+{
+    let row = lent::number_at(work, a.numbers + 2 * c);
+    (row < a.checks).then_some(row)
+}
 
 // Stores the net bits in the message columns, ascending, and 0 in the spare ones and the check columns.
 fn place_message(work: &mut [u8], a: Areas)
     requires { Laid a (length work.old) }
     ensures { Placed a work.old work.new }
 {
-    let k = a.checks;
-    let net = a.net;
-    let word = a.word;
-    let numbers = a.numbers;
-    let message = a.message;
     let mut m = 0;
-    let mut j = 0;
-    while j < a.gross {
+    for j in 0..a.gross {
         let mut v = 0;
-        if k <= lent::number_at(work, numbers + 2 * j) {
-            if m < net {
-                v = work[message + m];
+        if pivot_row(work, a, j).is_none() {
+            if m < a.net {
+                v = work[a.message + m];
             }
             m += 1;
         }
-        work[word + j] = v;
-        j += 1;
+        work[a.word + j] = v;
     }
 }
 
@@ -43,20 +45,13 @@ fn solve_checks(work: &mut [u8], a: Areas)
     requires { Laid a (length work.old) × RowsEnd a work.old × ChecksZero a work.old × Packed a.stride a.checks a.word a.gross work.old }
     ensures { Solved a work.old work.new }
 {
-    let k = a.checks;
-    let stride = a.stride;
-    let word = a.word;
-    let numbers = a.numbers;
-    let mut c = 0;
-    while c < a.gross {
-        let row = lent::number_at(work, numbers + 2 * c);
-        if row < k {
-            if dense::parity(work, stride, row, k) == 1 {
-                work[word + c] = 1;
-                dense::turn(work, stride, k, c);
+    for c in 0..a.gross {
+        if let Some(row) = pivot_row(work, a, c) {
+            if dense::parity(work, a.stride, row, a.checks) == 1 {
+                work[a.word + c] = 1;
+                dense::turn(work, a.stride, a.checks, c);
             }
         }
-        c += 1;
     }
 }
 
@@ -71,30 +66,23 @@ pub fn fill_word(work: &mut [u8], a: Areas)
 }
 
 // Stores the bits of the word in the first message columns as the net bits, and answers whether one in the
-// spare message columns is 1.
+// spare message columns is 1. The net bits are stored in both cases, so that the answer is a flag and no Result.
 pub fn read_message(work: &mut [u8], a: Areas) -> bool
     requires { Laid a (length work.old) × HoldsElimination a work.old }
     ensures { MessageRead a work.old work.new result }
 {
-    let k = a.checks;
-    let net = a.net;
-    let word = a.word;
-    let numbers = a.numbers;
-    let message = a.message;
     let mut spare = false;
     let mut m = 0;
-    let mut j = 0;
-    while j < a.gross {
-        if k <= lent::number_at(work, numbers + 2 * j) {
-            let v = work[word + j];
-            if m < net {
-                work[message + m] = v;
+    for j in 0..a.gross {
+        if pivot_row(work, a, j).is_none() {
+            let v = work[a.word + j];
+            if m < a.net {
+                work[a.message + m] = v;
             } else if v % 2 == 1 {
                 spare = true;
             }
             m += 1;
         }
-        j += 1;
     }
     spare
 }

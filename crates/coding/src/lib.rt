@@ -20,7 +20,8 @@ pub fn encode(work: &mut [u8], a: Areas)
 }
 
 // Stores the bits of the word in the first message columns as the net bits, and answers whether one in the
-// spare message columns is 1. The checks are lost.
+// spare message columns is 1. The checks are lost. The net bits are stored in both cases, so that the answer
+// is a flag and no Result.
 pub fn take_message(work: &mut [u8], a: Areas) -> bool
     requires { Laid a (length work.old) }
     ensures { MessageTaken a (stands_in a work.old) work.old work.new result }

@@ -23,381 +23,232 @@
 // its limit, or another wc or wr prints `bad case`. Of the input the first 655,360 bytes are read.
 #![tactic(auto)]
 
-ghost use Rattle.std.specs.Prelude.{◌≤◌, ◌≡◌, true, false, length, replicate, IfOk};
+ghost use Rattle.std.specs.Prelude.{◌≤◌, ◌<◌, ◌≡◌, length, IfSome};
 
 use calls::ReadAnswer;
+use program_calls::{Limited, within_limit};
+use program_input::read_full;
+use std::fmt::Display;
 use std::io;
-use std::io::Read;
 use symbology::Params;
+
+// A byte that a call stores to, before the call, and a number of the slice for places.
+const FILLED: u8 = 165;
+
+const FILLED_NUMBER: u16 = 42405;
 
 // ---- numbers of a line
 
-// A number, and where in its line the next one starts. Behind the last number of a line of n bytes that
-// is n + 1. Where there is no number it is n + 2, and there is none at n + 2 either: one test behind the
-// last number tells whether all were there.
+// What is left of a line: `None` behind its last number.
+#[derive(Drop)]
+struct Line<'a> {
+    rest: Option<&'a [u8]>,
+}
+
+// The number that decimal digits write, at least one of them.
+fn decimal(digits: &[u8]) -> Option<u32> {
+    if digits.is_empty() {
+        return None;
+    }
+    let mut n: u32 = 0;
+    for digit in digits {
+        let digit = char::from(*digit).to_digit(10)?;
+        n = n.checked_mul(10)?.checked_add(digit)?;
+    }
+    Some(n)
+}
+
+impl Line<'_> {
+    // The next number, which is at most `most`. A space or the line's end follows it.
+    fn number(&mut self, most: u32) -> Option<u32>
+        ensures { IfSome result (λ n. n ≤ most) }
+    {
+        let rest = self.rest?;
+        let end = rest.iter().position(|b| *b == b' ').unwrap_or(rest.len());
+        self.rest = rest.get(end + 1..);
+        decimal(&rest[..end]).filter(|n| *n <= most)
+    }
+
+    fn length(&mut self, most: u32) -> Option<usize>
+        ensures { IfSome result (λ n. n ≤ most) }
+    {
+        Some(self.number(most)? as usize)
+    }
+
+    fn word(&mut self) -> Option<u32> {
+        self.number(u32::MAX)
+    }
+
+    fn params(&mut self) -> Option<Params> {
+        Some(Params {
+            kind: self.word()?,
+            horizontal: self.word()?,
+            vertical: self.word()?,
+            colours: self.word()?,
+            black: self.word()?,
+            cyan: self.word()?,
+            yellow: self.word()?,
+            wc: self.word()?,
+            wr: self.word()?,
+            mask: self.word()?,
+            turn: self.word()?,
+        })
+    }
+
+    // Stores as many numbers as the slice has.
+    fn numbers<N: Copy + TryFrom<u32>>(&mut self, numbers: &mut [N]) -> Option<()>
+    where
+        N::Error: Drop,
+    {
+        for n in numbers.iter_mut() {
+            *n = N::try_from(self.word()?).ok()?;
+        }
+        Some(())
+    }
+}
+
+// ---- cases
+
+#[derive(Drop)]
+struct Buffers {
+    list: [u16; 3100],
+    matrix: [u8; 4096],
+    work: [u8; 53964],
+    message: [u8; 1024],
+    numbers: [u16; 1032],
+}
+
+// A call, and how much of each buffer is lent to it: of the numbers the first `slots` are the slice for
+// places, 0 with a write, so that both calls share the record. What the call reads stands in the buffers.
+// Slices in place of the lengths would be no plainer: a call takes four or five parts of the buffers, some to
+// read and some to write.
 #[derive(Clone, Copy)]
-struct Token {
-    value: u32,
-    next: usize,
+struct Case {
+    call: Call,
+    limited: Limited,
+    list: usize,
+    matrix: usize,
+    work: usize,
+    message: usize,
+    slots: usize,
+    ghost list_fits: { list ≤ 3100 },
+    ghost matrix_fits: { matrix ≤ 4096 },
+    ghost work_fits: { work ≤ 53964 },
+    ghost message_fits: { message ≤ 1024 },
+    ghost slots_fit: { slots ≤ 1024 },
 }
 
-fn no_number(line: &[u8]) -> Token
-    ensures { result.value ≡ 0 }
-{
-    Token {
-        value: 0,
-        next: line.len() + 2,
-    }
-}
-
-fn wide(b: u8) -> usize
-    ensures { result ≡ b }
-{
-    b as usize
-}
-
-// The number that a digit writes, and 10 for any other byte.
-fn digit_of(b: u8) -> usize
-    ensures { result ≤ 10 }
-{
-    let n = wide(b);
-    if n < 48 {
-        return 10;
-    }
-    if 57 < n {
-        return 10;
-    }
-    n - 48
-}
-
-// The number of at most `most` at a place of a line, which a space or the line's end follows.
-fn number(line: &[u8], at: usize, most: u32) -> Token
-    ensures { result.value ≤ most }
-{
-    if line.len() <= at {
-        return no_number(line);
-    }
-    let limit = most as usize;
-    let mut value = 0;
-    let mut i = at;
-    while i < line.len() {
-        let digit = digit_of(line[i]);
-        if digit == 10 {
-            break;
-        }
-        value = 10 * value + digit;
-        if limit < value {
-            return no_number(line);
-        }
-        i += 1;
-    }
-    ended(line, at, i, value as u32)
-}
-
-// The number whose digits stand from `at` to `end`.
-fn ended(line: &[u8], at: usize, end: usize, value: u32) -> Token
-    requires { end ≤ length line.now }
-    ensures { result.value ≤ value }
-{
-    if at == end {
-        return no_number(line);
-    }
-    if end < line.len() {
-        if line[end] != b' ' {
-            return no_number(line);
-        }
-    }
-    Token {
-        value: value,
-        next: end + 1,
-    }
-}
-
-fn word(line: &[u8], at: usize) -> Token {
-    number(line, at, 4294967295)
-}
-
-// The parameters, the length of the list, and where in their line the next number starts.
 #[derive(Clone, Copy)]
-struct Front {
-    p: Params,
-    entries: usize,
-    next: usize,
+enum Call {
+    Write,
+    Read,
 }
 
-fn take_front(line: &[u8], at: usize) -> Front
-    ensures { result.entries ≤ 3100 }
+// The case of a write, from the lengths behind the list on.
+fn take_write(line: &mut Line, limited: Limited, list: usize, buffers: &mut Buffers) -> Option<Case>
+    requires { list ≤ 3100 }
 {
-    let kind = word(line, at);
-    let horizontal = word(line, kind.next);
-    let vertical = word(line, horizontal.next);
-    let colours = word(line, vertical.next);
-    let black = word(line, colours.next);
-    let cyan = word(line, black.next);
-    let yellow = word(line, cyan.next);
-    let wc = word(line, yellow.next);
-    let wr = word(line, wc.next);
-    let mask = word(line, wr.next);
-    let turn = word(line, mask.next);
-    let entries = number(line, turn.next, 3100);
-    let p = Params {
-        kind: kind.value,
-        horizontal: horizontal.value,
-        vertical: vertical.value,
-        colours: colours.value,
-        black: black.value,
-        cyan: cyan.value,
-        yellow: yellow.value,
-        wc: wc.value,
-        wr: wr.value,
-        mask: mask.value,
-        turn: turn.value,
+    let matrix = line.length(4096)?;
+    let work = line.length(53964)?;
+    let message = line.length(1024)?;
+    line.numbers(&mut buffers.message[..message])?;
+    Some(Case {
+        call: Call::Write,
+        limited,
+        list,
+        matrix,
+        work,
+        message,
+        slots: 0,
+    })
+}
+
+// The case of a read, from there on.
+fn take_read(line: &mut Line, limited: Limited, list: usize, buffers: &mut Buffers) -> Option<Case>
+    requires { list ≤ 3100 }
+{
+    let work = line.length(53964)?;
+    let message = line.length(1024)?;
+    let slots = line.length(1024)?;
+    let matrix = line.length(4096)?;
+    line.numbers(&mut buffers.matrix[..matrix])?;
+    Some(Case {
+        call: Call::Read,
+        limited,
+        list,
+        matrix,
+        work,
+        message,
+        slots,
+    })
+}
+
+// The case that a line gives, which ends with its last number.
+fn take_case(line: &mut Line, buffers: &mut Buffers) -> Option<Case> {
+    let call = line.number(1)?;
+    let limited = within_limit(line.params()?)?;
+    let list = line.length(3100)?;
+    line.numbers(&mut buffers.list[..list])?;
+    let case = if call == 0 {
+        take_write(line, limited, list, buffers)?
+    } else {
+        take_read(line, limited, list, buffers)?
     };
-    Front {
-        p: p,
-        entries: entries.value as usize,
-        next: entries.next,
+    line.rest.is_none().then_some(case)
+}
+
+// ---- what is printed of the buffers
+
+// Prints numbers, each with a space before it: a literal of the format, which other programs have behind it.
+fn print_numbers<N: Display>(rt: &impl Print, numbers: &[N]) -> io::Result<()> {
+    for n in numbers {
+        print!(rt; " {n}")?;
     }
-}
-
-// Three lengths, and where in their line the next number starts.
-#[derive(Clone, Copy)]
-struct Lengths {
-    first: usize,
-    second: usize,
-    third: usize,
-    next: usize,
-}
-
-// Three lengths of at most those given.
-fn take_lengths(line: &[u8], at: usize, most1: u32, most2: u32, most3: u32) -> Lengths
-    ensures { (result.first ≤ most1) × (result.second ≤ most2) × (result.third ≤ most3) }
-{
-    let first = number(line, at, most1);
-    let second = number(line, first.next, most2);
-    let third = number(line, second.next, most3);
-    Lengths {
-        first: first.value as usize,
-        second: second.value as usize,
-        third: third.value as usize,
-        next: third.next,
-    }
-}
-
-// Stores as many numbers as the list holds, and answers where the next one starts.
-fn take_list(line: &[u8], at: usize, list: &mut [u16]) -> usize {
-    let mut next = at;
-    let mut i = 0;
-    while i < list.len() {
-        let entry = number(line, next, 65535);
-        list[i] = entry.value as u16;
-        next = entry.next;
-        i += 1;
-    }
-    next
-}
-
-// Stores as many numbers as there are bytes, and answers where the next one starts.
-fn take_bytes(line: &[u8], at: usize, bytes: &mut [u8]) -> usize {
-    let mut next = at;
-    let mut i = 0;
-    while i < bytes.len() {
-        let byte = number(line, next, 255);
-        bytes[i] = byte.value as u8;
-        next = byte.next;
-        i += 1;
-    }
-    next
-}
-
-// ---- buffers and what is printed of them
-
-fn fill(bytes: &mut [u8])
-    ensures { bytes.new ≡ replicate (length bytes.old) 165 }
-{
-    let mut i = 0;
-    while i < bytes.len() {
-        bytes[i] = 165;
-        i += 1;
-    }
-}
-
-fn all_are(bytes: &[u8], value: u8) -> bool
-    ensures all_hold { result ≡ true → bytes.now ≡ replicate (length bytes.now) value }
-    ensures one_differs { result ≡ false → bytes.now ≡ replicate (length bytes.now) value → ⊥ }
-{
-    let mut i = 0;
-    while i < bytes.len() {
-        if bytes[i] != value {
-            return false;
-        }
-        i += 1;
-    }
-    true
-}
-
-fn fill_numbers(numbers: &mut [u16])
-    ensures { numbers.new ≡ replicate (length numbers.old) 42405 }
-{
-    let mut i = 0;
-    while i < numbers.len() {
-        numbers[i] = 42405;
-        i += 1;
-    }
-}
-
-fn all_filled(numbers: &[u16]) -> bool
-    ensures all_hold { result ≡ true → numbers.now ≡ replicate (length numbers.now) 42405 }
-    ensures one_differs { result ≡ false → numbers.now ≡ replicate (length numbers.now) 42405 → ⊥ }
-{
-    let mut i = 0;
-    while i < numbers.len() {
-        if numbers[i] != 42405 {
-            return false;
-        }
-        i += 1;
-    }
-    true
-}
-
-fn print_number(rt: &impl Print, n: usize) -> io::Result<()> {
-    print!(rt; " {n}")
+    Ok(())
 }
 
 fn print_state(rt: &impl Print, kept: bool) -> io::Result<()> {
-    if kept {
-        return rt.write_all(b" kept");
-    }
-    rt.write_all(b" changed")
+    rt.write_all(if kept { b" kept" } else { b" changed" })
 }
 
 fn print_kept(rt: &impl Print, bytes: &[u8]) -> io::Result<()> {
-    print_state(rt, all_are(bytes, 165))
+    print_state(rt, bytes.iter().all(|b| *b == FILLED))
 }
 
 fn print_work(rt: &impl Print, work: &[u8]) -> io::Result<()> {
-    if all_are(work, 0) {
-        return rt.write_all(b" zero");
+    if work.iter().all(|b| *b == 0) {
+        rt.write_all(b" zero")
+    } else {
+        print_kept(rt, work)
     }
-    print_kept(rt, work)
-}
-
-fn print_bytes(rt: &impl Print, bytes: &[u8]) -> io::Result<()> {
-    for b in bytes {
-        print_number(rt, wide(*b))?;
-    }
-    Ok(())
-}
-
-// The places of the repairs, in decimal.
-fn print_places(rt: &impl Print, places: &[u16]) -> io::Result<()> {
-    for place in places {
-        print_number(rt, usize::from(*place))?;
-    }
-    Ok(())
 }
 
 // The digit of a module, and `?` where it has none.
 fn digit(module: u8) -> u8 {
-    if module < 10 {
-        return 48 + module;
+    match module {
+        0..=9 => b'0' + module,
+        _ => b'?',
     }
-    b'?'
 }
 
 // The matrix goes out in one call, as its digits in its own place.
 fn print_modules(rt: &impl Print, matrix: &mut [u8]) -> io::Result<()> {
-    let mut i = 0;
-    while i < matrix.len() {
-        matrix[i] = digit(matrix[i]);
-        i += 1;
+    for module in matrix.iter_mut() {
+        *module = digit(*module);
     }
     rt.write_all(b" ")?;
     rt.write_all(matrix)
 }
 
 fn print_matrix(rt: &impl Print, number: u32, matrix: &mut [u8]) -> io::Result<()> {
-    if number != 0 {
-        return print_kept(rt, matrix);
-    }
-    print_modules(rt, matrix)
-}
-
-// ---- cases
-
-fn run_write(
-    rt: &impl Print,
-    p: Params,
-    list: &[u16],
-    message: &[u8],
-    matrix: &mut [u8],
-    work: &mut [u8],
-) -> io::Result<()>
-    requires { (p.wc ≡ 3) × (p.wr ≡ 9) × (length work.old ≤ 53964) }
-{
-    fill(matrix);
-    fill(work);
-    let answer = jabcode::write(p, list, message, matrix, work);
-    rt.write_all(b"write")?;
-    print_number(rt, answer.number as usize)?;
-    print_number(rt, answer.place)?;
-    print_work(rt, work)?;
-    print_matrix(rt, answer.number, matrix)?;
-    rt.write_all(b"\n")
-}
-
-// What a read answered, and how many places it stored.
-#[derive(Clone, Copy)]
-struct Reading {
-    answer: ReadAnswer,
-    stored: usize,
-}
-
-// A read with the first `slots` numbers as the slice for places. The message is never longer than its buffer,
-// nor are there more places than numbers.
-fn read(
-    p: Params,
-    list: &[u16],
-    matrix: &[u8],
-    work: &mut [u8],
-    message: &mut [u8],
-    numbers: &mut [u16],
-    slots: usize,
-) -> Reading
-    requires { slots ≤ length numbers.old }
-    ensures { (result.answer.length ≤ length message.old) × (result.stored ≤ length numbers.old) }
-{
-    let answer = jabcode::read(p, list, matrix, work, message, &mut numbers[0..slots]);
-    if answer.number != 0 {
-        return Reading {
-            answer: answer,
-            stored: 0,
-        };
-    }
-    Reading {
-        answer: answer,
-        stored: answer.repairs,
+    if number == 0 {
+        print_modules(rt, matrix)
+    } else {
+        print_kept(rt, matrix)
     }
 }
 
-fn print_read(rt: &impl Print, answer: ReadAnswer) -> io::Result<()> {
-    rt.write_all(b"read")?;
-    print_number(rt, answer.number as usize)?;
-    print_number(rt, answer.place)?;
-    print_number(rt, answer.length)?;
-    print_number(rt, answer.repairs)?;
-    print_number(rt, answer.unmet)?;
-    print_number(rt, answer.stuffing)
-}
-
-// Fills what a read stores to.
-fn fill_all(work: &mut [u8], message: &mut [u8], numbers: &mut [u16]) {
-    fill(work);
-    fill(message);
-    fill_numbers(numbers);
-}
-
-// Prints what a read left in the message buffer and in the numbers.
+// What a read left in the message buffer and in the numbers.
 fn print_left(
     rt: &impl Print,
     message: &[u8],
@@ -408,268 +259,102 @@ fn print_left(
     requires { (end ≤ length message.now) × (stored ≤ length numbers.now) }
 {
     print_kept(rt, &message[end..])?;
-    print_state(rt, all_filled(&numbers[stored..]))?;
-    print_bytes(rt, &message[0..end])?;
-    print_places(rt, &numbers[0..stored])
+    print_state(rt, numbers[stored..].iter().all(|n| *n == FILLED_NUMBER))?;
+    print_numbers(rt, &message[..end])?;
+    print_numbers(rt, &numbers[..stored])
 }
 
-// A read and what it leaves. The numbers behind the slice for places are looked at as well.
-fn run_read(
-    rt: &impl Print,
-    p: Params,
-    list: &[u16],
-    matrix: &[u8],
-    work: &mut [u8],
-    message: &mut [u8],
-    numbers: &mut [u16],
-    slots: usize,
-) -> io::Result<()>
-    requires { (p.wc ≡ 3) × (p.wr ≡ 9) × (length work.old ≤ 53964) × (slots ≤ length numbers.old) }
-{
-    fill_all(work, message, numbers);
-    let reading = read(p, list, matrix, work, message, numbers, slots);
+// ---- the calls
+
+fn run_write(rt: &impl Print, case: Case, buffers: &mut Buffers) -> io::Result<()> {
+    let list = &buffers.list[..case.list];
+    let message = &buffers.message[..case.message];
+    let matrix = &mut buffers.matrix[..];
+    let matrix = &mut matrix[..case.matrix];
+    let work = &mut buffers.work[..];
+    let work = &mut work[..case.work];
+    matrix.fill(FILLED);
+    work.fill(FILLED);
+    let answer = jabcode::write(case.limited.p, list, message, matrix, work);
+    rt.write_all(b"write")?;
+    print_numbers(rt, &[answer.number as usize, answer.place])?;
+    print_work(rt, work)?;
+    print_matrix(rt, answer.number, matrix)?;
+    rt.write_all(b"\n")
+}
+
+fn print_read(rt: &impl Print, answer: ReadAnswer) -> io::Result<()> {
+    rt.write_all(b"read")?;
+    print_numbers(
+        rt,
+        &[
+            answer.number as usize,
+            answer.place,
+            answer.length,
+            answer.repairs,
+            answer.unmet,
+            answer.stuffing,
+        ],
+    )
+}
+
+// The numbers behind the slice for places are looked at as well.
+fn run_read(rt: &impl Print, case: Case, buffers: &mut Buffers) -> io::Result<()> {
+    let list = &buffers.list[..case.list];
+    let matrix = &buffers.matrix[..case.matrix];
+    let work = &mut buffers.work[..];
+    let work = &mut work[..case.work];
+    let message = &mut buffers.message[..];
+    let message = &mut message[..case.message];
+    let numbers = &mut buffers.numbers[..];
+    work.fill(FILLED);
+    message.fill(FILLED);
+    numbers.fill(FILLED_NUMBER);
+    let slots = &mut numbers[..case.slots];
+    let reading = program_calls::read(case.limited, list, matrix, work, message, slots);
     print_read(rt, reading.answer)?;
     print_work(rt, work)?;
     print_left(rt, message, reading.answer.length, numbers, reading.stored)?;
     rt.write_all(b"\n")
 }
 
-// The case of a write whose message stands at `at`, with buffers of the lengths that its line gives.
-fn write_case(
-    rt: &impl Print,
-    line: &[u8],
-    at: usize,
-    p: Params,
-    list: &[u16],
-    matrix: &mut [u8],
-    work: &mut [u8],
-    message: &mut [u8],
-) -> io::Result<()>
-    requires { (p.wc ≡ 3) × (p.wr ≡ 9) × (length work.old ≤ 53964) }
-{
-    let end = take_bytes(line, at, message);
-    if end != line.len() + 1 {
-        return rt.write_all(b"bad case\n");
-    }
-    run_write(rt, p, list, message, matrix, work)
-}
-
-// The same of a read, whose matrix stands there.
-fn read_case(
-    rt: &impl Print,
-    line: &[u8],
-    at: usize,
-    p: Params,
-    list: &[u16],
-    matrix: &mut [u8],
-    work: &mut [u8],
-    message: &mut [u8],
-    numbers: &mut [u16],
-    slots: usize,
-) -> io::Result<()>
-    requires { (p.wc ≡ 3) × (p.wr ≡ 9) × (length work.old ≤ 53964) × (slots ≤ length numbers.old) }
-{
-    let end = take_bytes(line, at, matrix);
-    if end != line.len() + 1 {
-        return rt.write_all(b"bad case\n");
-    }
-    run_read(rt, p, list, matrix, work, message, numbers, slots)
-}
-
-// The line of a write, from the lengths behind the list on.
-fn write_line(
-    rt: &impl Print,
-    line: &[u8],
-    at: usize,
-    p: Params,
-    list: &[u16],
-    matrix: &mut [u8],
-    work: &mut [u8],
-    message: &mut [u8],
-) -> io::Result<()>
-    requires code { (p.wc ≡ 3) × (p.wr ≡ 9) }
-    requires buffers { (4096 ≤ length matrix.old) × (53964 ≤ length work.old) × (1024 ≤ length message.old) }
-{
-    let given = take_lengths(line, at, 4096, 53964, 1024);
-    let m = given.first;
-    let w = given.second;
-    let n = given.third;
-    write_case(
-        rt,
-        line,
-        given.next,
-        p,
-        list,
-        &mut matrix[0..m],
-        &mut work[0..w],
-        &mut message[0..n],
-    )
-}
-
-// The line of a read, from there on.
-fn read_line(
-    rt: &impl Print,
-    line: &[u8],
-    at: usize,
-    p: Params,
-    list: &[u16],
-    matrix: &mut [u8],
-    work: &mut [u8],
-    message: &mut [u8],
-    numbers: &mut [u16],
-) -> io::Result<()>
-    requires code { (p.wc ≡ 3) × (p.wr ≡ 9) }
-    requires buffers { (4096 ≤ length matrix.old) × (53964 ≤ length work.old) × (1024 ≤ length message.old) × (1024 ≤ length numbers.old) }
-{
-    let given = take_lengths(line, at, 53964, 1024, 1024);
-    let modules = number(line, given.next, 4096);
-    let w = given.first;
-    let r = given.second;
-    let m = modules.value as usize;
-    read_case(
-        rt,
-        line,
-        modules.next,
-        p,
-        list,
-        &mut matrix[0..m],
-        &mut work[0..w],
-        &mut message[0..r],
-        numbers,
-        given.third,
-    )
-}
-
-fn is_comment(line: &[u8]) -> bool {
-    if 0 < line.len() {
-        return line[0] == b'#';
-    }
-    false
-}
-
-// A case from its list on, whose first number is `call`.
-fn run_case(
-    rt: &impl Print,
-    line: &[u8],
-    call: u32,
-    given: Front,
-    list: &mut [u16],
-    matrix: &mut [u8],
-    work: &mut [u8],
-    message: &mut [u8],
-    numbers: &mut [u16],
-) -> io::Result<()>
-    requires front { (given.p.wc ≡ 3) × (given.p.wr ≡ 9) × (given.entries ≤ 3100) }
-    requires buffers { (3100 ≤ length list.old) × (4096 ≤ length matrix.old) × (53964 ≤ length work.old) × (1024 ≤ length message.old) × (1024 ≤ length numbers.old) }
-{
-    let p = given.p;
-    let l = given.entries;
-    let at = take_list(line, given.next, &mut list[0..l]);
-    if call == 1 {
-        return read_line(rt, line, at, p, &list[0..l], matrix, work, message, numbers);
-    }
-    write_line(rt, line, at, p, &list[0..l], matrix, work, message)
-}
-
-fn run_line(
-    rt: &impl Print,
-    line: &[u8],
-    list: &mut [u16],
-    matrix: &mut [u8],
-    work: &mut [u8],
-    message: &mut [u8],
-    numbers: &mut [u16],
-) -> io::Result<()>
-    requires { (3100 ≤ length list.old) × (4096 ≤ length matrix.old) × (53964 ≤ length work.old) × (1024 ≤ length message.old) × (1024 ≤ length numbers.old) }
-{
-    if is_comment(line) {
+fn run_line(rt: &impl Print, line: &[u8], buffers: &mut Buffers) -> io::Result<()> {
+    if line.starts_with(b"#") {
         return Ok(());
     }
-    let call = number(line, 0, 1);
-    let given = take_front(line, call.next);
-    if given.p.wc != 3 {
-        return rt.write_all(b"bad case\n");
+    let mut numbers = Line { rest: Some(line) };
+    match take_case(&mut numbers, buffers) {
+        None => rt.write_all(b"bad case\n"),
+        Some(case) => match case.call {
+            Call::Write => run_write(rt, case, buffers),
+            Call::Read => run_read(rt, case, buffers),
+        },
     }
-    if given.p.wr != 9 {
-        return rt.write_all(b"bad case\n");
-    }
-    run_case(
-        rt, line, call.value, given, list, matrix, work, message, numbers,
-    )
 }
 
-// Where the line that starts at `from` ends.
-fn line_end(input: &[u8], from: usize) -> usize
-    requires { from ≤ length input.now }
-    ensures { (from ≤ result) × (result ≤ length input.now) }
-{
-    let mut to = from;
-    while to < input.len() {
-        if input[to] == b'\n' {
-            return to;
-        }
-        to += 1;
-    }
-    to
-}
-
-fn run_lines(
-    rt: &impl Print,
-    input: &[u8],
-    list: &mut [u16],
-    matrix: &mut [u8],
-    work: &mut [u8],
-    message: &mut [u8],
-    numbers: &mut [u16],
-) -> io::Result<()>
-    requires { (3100 ≤ length list.old) × (4096 ≤ length matrix.old) × (53964 ≤ length work.old) × (1024 ≤ length message.old) × (1024 ≤ length numbers.old) }
-{
-    let mut from = 0;
-    while from < input.len() {
-        let to = line_end(input, from);
-        run_line(rt, &input[from..to], list, matrix, work, message, numbers)?;
-        from = to + 1;
+fn run_lines(rt: &impl Print, input: &[u8], buffers: &mut Buffers) -> io::Result<()> {
+    for line in input.split_inclusive(|b| *b == b'\n') {
+        run_line(rt, line.strip_suffix(b"\n").unwrap_or(line), buffers)?;
     }
     Ok(())
 }
 
-// 655,360 zeros, for the input.
+// 655,360 zeros, for the input. Where they are used, to count them takes the checker too long.
 fn input_buffer() -> [u8; 655360]
     ensures { 655360 ≡ length result }
 {
     [0; 655360]
 }
 
-// Reads until the buffer is full or the input ends, and answers how many bytes came.
-fn read_full(input: &mut impl Read, buf: &mut [u8]) -> io::Result<usize>
-    ensures { IfOk result (λ n. n ≤ length buf.new) }
-{
-    let mut done = 0;
-    while done < buf.len() {
-        let n = input.read(&mut buf[done..])?;
-        if n == 0 {
-            break;
-        }
-        done += n;
-    }
-    Ok(done)
-}
-
 fn main(rt: HostRuntime) -> io::Result<()> {
     let mut input = input_buffer();
-    let mut list = [0u16; 3100];
-    let mut matrix = [0u8; 4096];
-    let mut work = [0u8; 53964];
-    let mut message = [0u8; 1024];
-    let mut numbers = [0u16; 1032];
+    let mut buffers = Buffers {
+        list: [0; 3100],
+        matrix: [0; 4096],
+        work: [0; 53964],
+        message: [0; 1024],
+        numbers: [0; 1032],
+    };
     let n = read_full(&mut rt.stdin(), &mut input)?;
-    run_lines(
-        &rt,
-        &input[..n],
-        &mut list,
-        &mut matrix,
-        &mut work,
-        &mut message,
-        &mut numbers,
-    )
+    run_lines(&rt, &input[..n], &mut buffers)
 }

@@ -4,23 +4,23 @@ use Prim.Native.Nat.{ℕ, zero, suc, ◌+◌, ◌*◌, ◌/◌, ◌%◌, ◌^◌
 use mathlib.Core.Path.{◌≡◌, refl, sym, ap, ap₂, ◌∙◌}
 use mathlib.Core.Bool.{Bool, true, false, ◌&&◌, xor, and-false}
 use mathlib.Core.List.{List, [], ◌∷◌}
+use Rattle.std.specs.Prelude.{fold, zip}
 use native.Mathlib.Nat.{suc-mul, mul-le-mul_right}
-use native.Mathlib.Numerals.{add-one}
 use native.Mathlib.Decide.{ℕ_discrete, dec_lt}
 use native.Mathlib.Omega.{arith}
 use lib.Arith.{digits_div, digits_mod}
 use lib.Bits.{bit_and, bit_xor, differ, and_step, and_shr, xor_self, xor_shr}
+use lib.Count.{ones}
 use lib.Dec.{ltb, eqb}
 use lib.ListN.{length, get_or, set}
-use lib.Seq.{get_or-set_same, get_or-set_other}
+use lib.Seq.{get_or-set_same, get_or-set_other, drop-cons}
 use borrow.Author.Tests.{eq-eqb, ne_eqb, eqb-true, lt-ltb, le-ltb}
 use Rattle.symbology.specs.Ranges.{tally, all_below}
 use Rattle.symbology.specs.Matrix.{check_of}
 use Rattle.symbology.specs.Rule.{unmet}
 use Rattle.symbology.proofs.Ranges.{below_true}
-use Rattle.laws.proofs.Ranges.{tally_le}
 use Rattle.laws.proofs.Masks.{xor_digit}
-use Rattle.laws.proofs.Gf2.{parity_ext, parity_xor, parity_add, parity_short, dot_ext, bit_at, odd_step, unmet_dot}
+use Rattle.laws.proofs.Gf2.{parity_ext, parity_xor, parity_add, parity_short, dot_ext, bit_at, unmet_dot}
 use Rattle.laws.proofs.Gf2.{xor_none, none_xor, xor_same}
 use Rattle.laws.specs.Gf2.{parity, dot}
 use Rattle.laws.proofs.Stores.{store_next}
@@ -182,10 +182,6 @@ pub record AddedTo (s i t b : ℕ) (before after : List ℕ) : Type 0 where
   pub changed : Changed (span (i * s) (i * s + s) ∷ []) before after
   pub done : (p : ℕ) → p < b → get_or after (i * s + p) 0 ≡ bit_xor (get_or before (i * s + p) 0) (get_or before (t * s + p) 0)
   pub rest : (p : ℕ) → b ≤ p → get_or after (i * s + p) 0 ≡ get_or before (i * s + p) 0
-
-pub added_start : (s i t : ℕ) (xs : List ℕ) → AddedTo s i t 0 xs xs
-added_start s i t xs =
-    record { changed = changed_none (span (i * s) (i * s + s) ∷ []) xs; done = λ p h. absurd (omega arith); rest = λ p h. refl }
 
 -- the other rows are as before
 other_row : {s i t b : ℕ} {before after : List ℕ} → AddedTo s i t b before after → (x p : ℕ) → (x ≡ i → ⊥) → p < s
@@ -362,14 +358,41 @@ parity_byte s i k b xs both h e =
         let d : (b * 8 + q) % 8 ≡ q = omega arith in
         sym (ap₂ (λ (y z : ℕ). byte_bit (get_or xs (x * s + y) 0) z) p d)
 
--- one more bit of a byte
-pub odd_bit : (x k odd : ℕ) → odd ≡ tally (parity k (byte_bit x)) → (odd + x / 2 ^ k % 2) % 2 ≡ tally (parity (k + 1) (byte_bit x))
-unfolding parity
-odd_bit x k odd e =
-    let y : ℕ = x / 2 ^ k in
-    let low : (odd + y % 2) % 2 ≡ (odd + y) % 2 = omega arith in
-    let bit : odd % 2 ≡ tally (parity k (byte_bit x)) = omega (arith, e, tally_le (parity k (byte_bit x))) in
-    low ∙ odd_step odd y (parity k (byte_bit x)) bit ∙ ap (λ (n : ℕ). tally (parity n (byte_bit x))) (sym (add-one k))
+-- all bytes of both rows
+module _ (s i k : ℕ) (xs : List ℕ) (first : i * s + s ≤ length xs) (second : k * s + s ≤ length xs) where
+  -- the n bytes from the b-th one on, added to the sum of those before them
+  parity_from : (n b sum : ℕ) → b + n ≡ s → parity 8 (byte_bit sum) ≡ dot (b * 8) (dense_bits xs s i) (dense_bits xs s k)
+      → parity 8 (byte_bit (fold (λ z p. bit_xor z (bit_and p.0 p.1)) sum (zip (part xs (i * s + b) n) (part xs (k * s + b) n))))
+      ≡ dot (s * 8) (dense_bits xs s i) (dense_bits xs s k)
+  parity_from zero b sum e so_far =
+      let all : b ≡ s = omega arith in
+      rw all at so_far
+  parity_from (suc n) b sum e so_far =
+      let more : suc b + n ≡ s = omega arith in
+      let next_first : suc (i * s + b) ≡ i * s + (b + 1) = omega arith in
+      let next_second : suc (k * s + b) ≡ k * s + (b + 1) = omega arith in
+      rw (drop-cons xs (i * s + b) 0 (omega arith), drop-cons xs (k * s + b) 0 (omega arith), next_first, next_second)
+      (parity_from n (b + 1) (bit_xor sum (bit_and (get_or xs (i * s + b) 0) (get_or xs (k * s + b) 0))) (omega arith)
+      (parity_byte s i k b xs sum (omega arith) so_far))
+
+  pub parity_rows : parity 8 (byte_bit (fold (λ z p. bit_xor z (bit_and p.0 p.1)) 0 (zip (part xs (i * s) s) (part xs (k * s) s))))
+      ≡ dot (s * 8) (dense_bits xs s i) (dense_bits xs s k)
+  unfolding parity xor
+  parity_rows =
+      let front : i * s + 0 ≡ i * s = omega arith in
+      let back : k * s + 0 ≡ k * s = omega arith in
+      rw (front, back) at (parity_from s 0 0 (omega arith) refl)
+
+-- the parities of all bytes, computed
+odd_bytes : all_below 256 (λ x. eqb (ones x % 2) (tally (parity 8 (byte_bit x)))) ≡ true
+unfolding all_below parity ones xor
+odd_bytes = refl
+
+-- whether a byte has an odd number of ones
+pub odd_count : (x : ℕ) → x < 256 → ones x % 2 ≡ tally (parity 8 (byte_bit x))
+odd_count x h =
+    eqb-true (ones x % 2) (tally (parity 8 (byte_bit x)))
+    (below_true (λ z. eqb (ones z % 2) (tally (parity 8 (byte_bit z)))) 256 odd_bytes x h)
 
 -- Where row k is a word, the parity of row i and row k tells whether the check of row i is unmet in it.
 pub packed_unmet : (s i k word n : ℕ) (xs : List ℕ) → n ≤ s * 8 → Packed s k word n xs

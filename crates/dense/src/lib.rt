@@ -1,8 +1,10 @@
 // The dense rows of a check matrix in lent bytes: its bits, its rows added, a word stored as a row, its
-// checks judged. The rows lie in front of the buffer, `stride` bytes each, eight columns to a byte, the first column lowest.
+// checks judged. The rows lie in front of the buffer, `stride` bytes each, eight columns to a byte, the
+// first column lowest. They are the front of the work buffer, which other areas share, so that buffer and
+// stride are arguments and no struct.
 #![tactic(auto)]
 
-ghost use Rattle.std.specs.Prelude.{◌+◌, ◌*◌, ◌/◌, ◌≤◌, ◌<◌, ◌≡◌, length};
+ghost use Rattle.std.specs.Prelude.{◌+◌, ◌*◌, ◌/◌, ◌≤◌, ◌<◌, ◌≡◌, length, fold, zip, bit_and, bit_xor};
 ghost use Rattle.symbology.specs.Ranges.{tally};
 ghost use Rattle.laws.specs.Gf2.{parity, dot};
 ghost use Rattle.dense.specs.Dense.{byte_bit, dense_bits, Turned, RowAdded, PackedIn};
@@ -20,21 +22,19 @@ pub fn turn(xs: &mut [u8], stride: usize, i: usize, j: usize)
     requires { (i * stride + j / 8 < length xs.old) × (j / 8 < stride) }
     ensures { Turned stride i j xs.old xs.new }
 {
-    let at = i * stride + j / 8;
-    xs[at] = xs[at] ^ 1 << (j % 8);
+    xs[i * stride + j / 8] ^= 1 << (j % 8);
 }
 
-// Adds the first n bytes of row `from` to another row `to`.
+// Adds the first n bytes of row `from` to another row `to`. The bytes go by their places: to lend
+// two rows of one buffer at once takes a split, which depends on which of them lies first.
 pub fn add_row(xs: &mut [u8], stride: usize, to: usize, from: usize, n: usize)
     requires { (to ≡ from → ⊥) × (n ≤ stride) × (to * stride + stride ≤ length xs.old) × (from * stride + stride ≤ length xs.old) }
     ensures { RowAdded stride to from n xs.old xs.new }
 {
     let target = to * stride;
     let source = from * stride;
-    let mut b = 0;
-    while b < n {
-        xs[target + b] = xs[target + b] ^ xs[source + b];
-        b += 1;
+    for b in 0..n {
+        xs[target + b] ^= xs[source + b];
     }
 }
 
@@ -45,26 +45,25 @@ pub fn pack(xs: &mut [u8], stride: usize, k: usize, word: usize, n: usize)
 {
     let row = k * stride;
     lent::clear(xs, row, row + stride);
-    let mut j = 0;
-    while j < n {
+    for j in 0..n {
         if xs[word + j] % 2 == 1 {
             turn(xs, stride, k, j);
         }
-        j += 1;
     }
 }
 
-// Whether a byte has an odd number of ones (1) or not (0).
+// Whether a byte has an odd number of ones (1) or not (0): a byte, since that is what a mark is kept as.
 fn odd_ones(x: u8) -> u8
     ensures { result ≡ tally (parity 8 (byte_bit x)) }
 {
-    let mut odd = 0u8;
-    let mut k = 0usize;
-    while k < 8 {
-        odd = (odd + (x >> k) % 2) % 2;
-        k += 1;
-    }
-    odd
+    (x.count_ones() % 2) as u8
+}
+
+// The bits that two rows have in common, all bytes added up bit by bit without a carry.
+fn common_ones(row: &[u8], word: &[u8]) -> u8
+    ensures { result ≡ fold (λ sum p. bit_xor sum (bit_and p.0 p.1)) 0 (zip row.now word.now) }
+{
+    row.iter().zip(word).fold(0, |sum, (x, y)| sum ^ x & y)
 }
 
 // Whether the rows i and k have a 1 in an odd number of columns in common (1) or not (0). Where row k is a
@@ -73,13 +72,7 @@ pub fn parity(xs: &[u8], stride: usize, i: usize, k: usize) -> u8
     requires { (i * stride + stride ≤ length xs.now) × (k * stride + stride ≤ length xs.now) }
     ensures { result ≡ tally (dot (stride * 8) (dense_bits xs.now stride i) (dense_bits xs.now stride k)) }
 {
-    let row = i * stride;
-    let word = k * stride;
-    let mut both = 0u8;
-    let mut b = 0;
-    while b < stride {
-        both = both ^ xs[row + b] & xs[word + b];
-        b += 1;
-    }
-    odd_ones(both)
+    let row = &xs[i * stride..i * stride + stride];
+    let word = &xs[k * stride..k * stride + stride];
+    odd_ones(common_ones(row, word))
 }

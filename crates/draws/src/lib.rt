@@ -8,7 +8,8 @@ ghost use Rattle.symbology.specs.Shuffle.{drawn_place};
 ghost use Rattle.draws.specs.Backwards.{previous_state};
 
 // The product without its carry, from the products of 32-bit halves. That of the two upper halves
-// is all carry.
+// is all carry. It stays beside `u64::wrapping_mul`, since the requirements name a wrapping multiply of
+// the program's own.
 fn wrapping_mul(x: u64, y: u64) -> u64
     ensures { result ≡ x * y % 2 ^ 64 }
 {
@@ -16,25 +17,22 @@ fn wrapping_mul(x: u64, y: u64) -> u64
     let x1 = x >> 32;
     let y0 = y & 0xffff_ffff;
     let y1 = y >> 32;
-    let cross = std::num::wrapping_add_u64(x1 * y0, x0 * y1);
-    std::num::wrapping_add_u64(x0 * y0, cross << 32)
+    let cross = (x1 * y0).wrapping_add(x0 * y1);
+    (x0 * y0).wrapping_add(cross << 32)
 }
 
 // The state after a state.
 pub fn next_state(s: u64) -> u64
     ensures { result ≡ next_state s }
 {
-    std::num::wrapping_add_u64(wrapping_mul(6364136223846793005, s), 1)
+    wrapping_mul(6364136223846793005, s).wrapping_add(1)
 }
 
 // The state before a state: 1 taken away, and the product with the inverse of the generator's factor.
 pub fn previous_state(s: u64) -> u64
     ensures { result ≡ previous_state s }
 {
-    wrapping_mul(
-        13877824140714322085,
-        std::num::wrapping_add_u64(s, 18446744073709551615),
-    )
+    wrapping_mul(13877824140714322085, s.wrapping_add(18446744073709551615))
 }
 
 // The state after n draws.
@@ -42,10 +40,8 @@ pub fn state_after(n: usize, s: u64) -> u64
     ensures { result ≡ state_after n s }
 {
     let mut state = s;
-    let mut left = n;
-    while 0 < left {
+    for _ in 0..n {
         state = next_state(state);
-        left -= 1;
     }
     state
 }

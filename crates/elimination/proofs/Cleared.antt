@@ -7,7 +7,6 @@ use mathlib.Core.List.{List, [], ◌∷◌}
 use native.Mathlib.Decide.{ℕ_discrete, dec_lt}
 use native.Mathlib.Omega.{arith}
 use lib.Dec.{ltb, eqb}
-use lib.ListN.{get_or}
 use borrow.Author.Tests.{eq-eqb, ne_eqb, lt-ltb, le-ltb}
 use Rattle.symbology.specs.Matrix.{BitMatrix}
 use Rattle.laws.proofs.Gf2.{xor_none}
@@ -60,8 +59,8 @@ module _ {a : Areas} {pivot j i room : ℕ} {before after : List ℕ} (l : Laid 
   mark_kept = ap (λ (v : ℕ). eqb v 0) (r.changed.kept (a.marks + i) (omega arith))
 
   -- Row i stays.
-  cleared_skip : is_free a before j i ≡ false → ClearedTo a pivot j (i + 1) before after
-  cleared_skip e =
+  skipped : is_free a before j i ≡ false → ClearedTo a pivot j (i + 1) before after
+  skipped e =
       record {
         later = omega (arith, r.later);
         changed = r.changed;
@@ -76,22 +75,19 @@ module _ {a : Areas} {pivot j i room : ℕ} {before after : List ℕ} (l : Laid 
         rest = λ x h. r.rest x (omega arith);
       }
 
-  -- It has a mark.
-  pub cleared_marked : (get_or after (a.marks + i) 0 ≡ 0 → ⊥) → ClearedTo a pivot j (i + 1) before after
-  cleared_marked m =
-      cleared_skip (ap (λ (b : Bool). b && rows a before i j) (sym mark_kept ∙ ne_eqb (get_or after (a.marks + i) 0) 0 m))
-
   module _ (inside : j < a.gross) where
-    -- It has a 0 in the column.
-    pub cleared_zero : rows a after i j ≡ false → ClearedTo a pivot j (i + 1) before after
-    cleared_zero e =
-        cleared_skip
-        (ap (λ (b : Bool). is_unmarked a before i && b) (sym (r.rest i (omega arith) j inside) ∙ e) ∙ and-false (is_unmarked a before i))
+    -- whether row i is free is as before
+    free_kept : is_free a after j i ≡ is_free a before j i
+    free_kept = ap₂ ◌&&◌ mark_kept (r.rest i (omega arith) j inside)
+
+    -- Row i has a mark or a 0 in the column.
+    pub cleared_skip : is_free a after j i ≡ false → ClearedTo a pivot j (i + 1) before after
+    cleared_skip e = skipped (sym free_kept ∙ e)
 
     -- The pivot row is added to row i, which has no mark and has a 1 in the column.
-    pub cleared_add : {later : List ℕ} → EndsAt a before pivot j → i < a.checks → get_or after (a.marks + i) 0 ≡ 0
-        → rows a after i j ≡ true → RowAdded a.stride i pivot (j / 8 + 1) after later → ClearedTo a pivot j (i + 1) before later
-    cleared_add {later} ends h m e d =
+    pub cleared_add : {later : List ℕ} → EndsAt a before pivot j → i < a.checks → is_free a after j i ≡ true
+        → RowAdded a.stride i pivot (j / 8 + 1) after later → ClearedTo a pivot j (i + 1) before later
+    cleared_add {later} ends h free d =
         record {
           later = omega (arith, r.later);
           changed =
@@ -112,9 +108,7 @@ module _ {a : Areas} {pivot j i room : ℕ} {before after : List ℕ} (l : Laid 
         }
       where
         added : is_added a before pivot j i ≡ true
-        added =
-            ap₂ ◌&&◌ (lt-ltb pivot i r.later)
-            (ap₂ ◌&&◌ (sym mark_kept ∙ eq-eqb (get_or after (a.marks + i) 0) 0 m) (sym (r.rest i (omega arith) j inside) ∙ e))
+        added = ap₂ ◌&&◌ (lt-ltb pivot i r.later) (sym free_kept ∙ free)
 
         -- the pivot row ends with the byte of column j
         whole : (c : ℕ) → c < a.gross → (ltb (c / 8) (j / 8 + 1) && rows a after pivot c) ≡ rows a before pivot c

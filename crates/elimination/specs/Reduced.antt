@@ -1,7 +1,8 @@
 -- The work buffer in an elimination.
 -- Assumes nothing.
-use Rattle.std.specs.Prelude.{ℕ, ◌+◌, ◌*◌, ◌≤◌, ◌<◌, ◌≡◌, Bool, false, not, ◌&&◌, List, [], ◌∷◌, ltb, eqb, get_or}
+use Rattle.std.specs.Prelude.{ℕ, ◌+◌, ◌*◌, ◌≤◌, ◌<◌, ◌≡◌, Bool, false, not, ◌&&◌, List, [], ◌∷◌, Option, MatchOption, ltb, eqb, get_or}
 use Rattle.std.specs.Bool.{xor}
+use Rattle.symbology.specs.Ranges.{lowest}
 use Rattle.symbology.specs.Matrix.{BitMatrix}
 use Rattle.symbology.specs.Codeword.{is_check_column}
 use Rattle.laws.specs.Elimination.{Inv}
@@ -22,6 +23,11 @@ is_free a work j i = is_unmarked a work i && dense_bits work a.stride i j
 -- row i is the pivot row of a check column
 abbrev pub is_used : Areas → List ℕ → ℕ → Bool
 is_used a work i = not (is_unmarked a work i)
+
+-- the row is the first one that passes the test, and there is none where none passes
+abbrev pub IsFirstRow : Areas → (ℕ → Bool) → Option ℕ → Type 0
+IsFirstRow a test row =
+    MatchOption row (lowest test a.checks 0 ≡ a.checks) (λ i. (i ≡ lowest test a.checks 0) × (i < a.checks))
 
 -- the pivot row of column c, or the number of rows
 abbrev pub row_of : Areas → List ℕ → ℕ → ℕ

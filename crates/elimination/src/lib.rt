@@ -7,43 +7,41 @@
 #![tactic(auto)]
 
 ghost use Rattle.std.specs.Prelude.{◌≤◌, ◌<◌, ◌≡◌, length};
-ghost use Rattle.symbology.specs.Ranges.{lowest};
 ghost use Rattle.lent.specs.Work.{Laid};
-ghost use Rattle.elimination.specs.Reduced.{is_unmarked, is_free, MarkedBefore, EndsAt, ColumnCleared, Eliminated};
+ghost use Rattle.elimination.specs.Reduced.{is_unmarked, is_free, IsFirstRow, MarkedBefore, EndsAt, ColumnCleared, Eliminated};
 
 use lent::Areas;
 
-// The first row without a mark, and the number of rows where there is none. The rows before `from` have marks.
-fn first_unmarked(work: &[u8], a: Areas, from: usize) -> usize
-    requires { Laid a (length work.now) × (from ≤ a.checks) × MarkedBefore a work.now from }
-    ensures { result ≡ lowest (is_unmarked a work.now) a.checks 0 }
+// Whether row i has no mark.
+fn is_unmarked(work: &[u8], a: Areas, i: usize) -> bool
+    requires { Laid a (length work.now) × (i < a.checks) }
+    ensures { result ≡ is_unmarked a work.now i }
 {
-    let mut i = from;
-    while i < a.checks {
-        if work[a.marks + i] == 0 {
-            return i;
-        }
-        i += 1;
-    }
-    i
+    work[a.marks + i] == 0
 }
 
-// The first row without a mark that has a 1 in column j, and the number of rows where there is none. The rows
-// before `from` have marks.
-fn find_row(work: &[u8], a: Areas, from: usize, j: usize) -> usize
-    requires { Laid a (length work.now) × (from ≤ a.checks) × MarkedBefore a work.now from × (j < a.gross) }
-    ensures { result ≡ lowest (is_free a work.now j) a.checks 0 }
+// Whether row i has no mark and a 1 in column j.
+fn is_free(work: &[u8], a: Areas, j: usize, i: usize) -> bool
+    requires { Laid a (length work.now) × (i < a.checks) × (j < a.gross) }
+    ensures { result ≡ is_free a work.now j i }
 {
-    let mut i = from;
-    while i < a.checks {
-        if work[a.marks + i] == 0 {
-            if dense::bit(work, a.stride, i, j) {
-                return i;
-            }
-        }
-        i += 1;
-    }
-    i
+    is_unmarked(work, a, i) && dense::bit(work, a.stride, i, j)
+}
+
+// The first row without a mark. The rows before `from` have marks.
+fn first_unmarked(work: &[u8], a: Areas, from: usize) -> Option<usize>
+    requires { Laid a (length work.now) × (from ≤ a.checks) × MarkedBefore a work.now from }
+    ensures { IsFirstRow a (is_unmarked a work.now) result }
+{
+    (from..a.checks).find(|&i| is_unmarked(work, a, i))
+}
+
+// The first row without a mark that has a 1 in column j. The rows before `from` have marks.
+fn find_row(work: &[u8], a: Areas, from: usize, j: usize) -> Option<usize>
+    requires { Laid a (length work.now) × (from ≤ a.checks) × MarkedBefore a work.now from × (j < a.gross) }
+    ensures { IsFirstRow a (is_free a work.now j) result }
+{
+    (from..a.checks).find(|&i| is_free(work, a, j, i))
 }
 
 // Adds the row `pivot`, whose last 1 stands in column j, to every later row without a mark that has a 1 there.
@@ -52,14 +50,10 @@ fn clear_column(work: &mut [u8], a: Areas, pivot: usize, j: usize)
     ensures { ColumnCleared a pivot j work.old work.new }
 {
     let n = j / 8 + 1;
-    let mut i = pivot + 1;
-    while i < a.checks {
-        if work[a.marks + i] == 0 {
-            if dense::bit(work, a.stride, i, j) {
-                dense::add_row(work, a.stride, i, pivot, n);
-            }
+    for i in pivot + 1..a.checks {
+        if is_free(work, a, j, i) {
+            dense::add_row(work, a.stride, i, pivot, n);
         }
-        i += 1;
     }
 }
 
@@ -70,15 +64,14 @@ pub fn eliminate(work: &mut [u8], a: Areas)
 {
     lent::clear(work, a.marks, a.marks + a.checks);
     let mut first = 0;
-    let mut j = a.gross;
-    while 0 < j {
-        j -= 1;
-        let pivot = find_row(work, a, first, j);
-        lent::put_number(work, a.numbers + 2 * j, pivot);
-        if pivot < a.checks {
+    for j in (0..a.gross).rev() {
+        let found = find_row(work, a, first, j);
+        // The column's two bytes hold the number of rows for none, since lent memory holds numbers alone.
+        lent::put_number(work, a.numbers + 2 * j, found.unwrap_or(a.checks));
+        if let Some(pivot) = found {
             clear_column(work, a, pivot, j);
             work[a.marks + pivot] = 1;
-            first = first_unmarked(work, a, first);
+            first = first_unmarked(work, a, first).unwrap_or(a.checks);
         }
     }
 }

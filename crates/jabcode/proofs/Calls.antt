@@ -20,16 +20,15 @@ use Rattle.calls.specs.Promises.{Writes, Reads}
 use Rattle.call_laws.proofs.Tests.{first_append, first_passed, first_refuses, front_numbered}
 use Rattle.call_laws.proofs.Answers.{refused_write, refused_front, work_untouched}
 use Rattle.call_laws.proofs.Mending.{reads_are}
-use Rattle.legality.specs.declared.Verdict.{Verdict}
-use Rattle.legality.specs.declared.Verdict.TheVariants.{Legal, Refused}
+use Rattle.std.specs.Prelude.{Result, Ok, Err}
 use Rattle.legality.specs.Verdict.{verdict_of}
 use Rattle.legality.proofs.Verdicts.{legal_passes, passed_sizes, refused_answer, refused_numbered}
 
 -- the verdict v of the tests 1 to 5
-module _ (p : Params) (l : List ℕ) (modules work : ℕ) {v : Verdict}
+module _ (p : Params) (l : List ℕ) (modules work : ℕ) {v : Result Sizes Answer}
     (told : v ≡ verdict_of (front_rows p l modules work) (sizes_for p l)) where
   -- they are passed: the input is legal, and the sizes are those of its symbol
-  pub legal_input : {s : Sizes} → v ≡ Legal s → (is_legal p l modules work ≡ true) × (s ≡ sizes_for p l)
+  pub legal_input : {s : Sizes} → v ≡ Ok s → (is_legal p l modules work ≡ true) × (s ≡ sizes_for p l)
   unfolding is_legal
   legal_input e =
       let rows = front_rows p l modules work in
@@ -37,7 +36,7 @@ module _ (p : Params) (l : List ℕ) (modules work : ℕ) {v : Verdict}
       (legal_passes rows (sizes_for p l) each told e, passed_sizes rows (sizes_for p l) each told e)
 
   -- they refuse: this is the answer of their table, its number is not 0, and the input is not legal
-  module _ {a : Answer} (e : v ≡ Refused a) where
+  module _ {a : Answer} (e : v ≡ Err a) where
     answer_is : a ≡ first_of answer (front_rows p l modules work) (answer 0 0)
     answer_is = refused_answer (front_rows p l modules work) (sizes_for p l) (front_numbered p l modules work) told e
 
@@ -51,9 +50,9 @@ module _ (p : Params) (l : List ℕ) (modules work : ℕ) {v : Verdict}
         by (passes (front_rows p l modules work)) (λ t. absurd (some (ap (λ (b : Answer). b.number) (answer_is ∙ passed t)))) (λ t. t)
 
 -- a write that one of the tests 1 to 5 refuses
-pub write_refused : (p : Params) (l stream matrix work : List ℕ) {v : Verdict} {a : Answer}
+pub write_refused : (p : Params) (l stream matrix work : List ℕ) {v : Result Sizes Answer} {a : Answer}
     → v ≡ verdict_of (front_rows p l (length matrix) (length work)) (sizes_for p l)
-    → v ≡ Refused a
+    → v ≡ Err a
     → Writes p l stream matrix work a matrix work
 unfolding write_answer write_rows
 write_refused p l stream matrix work {a = a} told e =
@@ -71,9 +70,9 @@ write_refused p l stream matrix work {a = a} told e =
     }
 
 -- a read that one of them refuses
-pub read_refused : (p : Params) (l matrix work message places : List ℕ) {v : Verdict} {a : Answer} {r : ReadAnswer}
+pub read_refused : (p : Params) (l matrix work message places : List ℕ) {v : Result Sizes Answer} {a : Answer} {r : ReadAnswer}
     → v ≡ verdict_of (front_rows p l (length matrix) (length work)) (sizes_for p l)
-    → v ≡ Refused a
+    → v ≡ Err a
     → r ≡ refused a.number a.place
     → Reads p l matrix work message places r work message places
 unfolding read_answer early_rows

@@ -9,11 +9,11 @@
 
 ghost use Rattle.std.specs.Prelude.{◌≡◌};
 ghost use Rattle.symbology.specs.Stream.{stream_of};
+ghost use Rattle.calls.specs.Refusals.{answer_of};
 ghost use Rattle.calls.specs.Sizes.{sizes_answer};
 ghost use Rattle.calls.specs.Promises.{Writes, Reads, WritesThenReads};
 
-use calls::{Answer, ReadAnswer, SizesAnswer};
-use legality::Verdict;
+use calls::{Answer, ReadAnswer, Refusal, SizesAnswer};
 use symbology::Params;
 
 // What a caller needs to know of a symbol before it is written or read: columns, rows, C, Pn, the bytes of
@@ -29,11 +29,21 @@ pub fn sizes(p: Params, list: &[u16]) -> SizesAnswer
 pub fn write(p: Params, list: &[u16], message: &[u8], matrix: &mut [u8], work: &mut [u8]) -> Answer
     ensures writes { Writes p list.now (stream_of message.now) matrix.old work.old result matrix.new work.new }
 {
-    let tested = legality::front_tests(p, list, matrix.len(), work.len());
-    match tested {
-        Verdict::Legal(s) => symbol_writer::write_legal(p, list, message, matrix, work, s),
-        Verdict::Refused(first) => first,
-    }
+    Answer::from(write_tested(p, list, message, matrix, work))
+}
+
+// The tests 1 to 5, and the write of legal input.
+fn write_tested(
+    p: Params,
+    list: &[u16],
+    message: &[u8],
+    matrix: &mut [u8],
+    work: &mut [u8],
+) -> Result<(), Refusal>
+    ensures { Writes p list.now (stream_of message.now) matrix.old work.old (answer_of result) matrix.new work.new }
+{
+    let s = legality::front_tests(p, list, matrix.len(), work.len())?;
+    symbol_writer::write_legal(p, list, message, matrix, work, s)
 }
 
 // Reads a sampled matrix. On 0 the first bytes of the message buffer are the message, as many as the answer
@@ -51,10 +61,9 @@ pub fn read(
 ) -> ReadAnswer
     ensures reads { Reads p list.now matrix.now work.old message.old places.old result work.new message.new places.new }
 {
-    let tested = legality::front_tests(p, list, matrix.len(), work.len());
-    match tested {
-        Verdict::Legal(s) => symbol_reader::read_legal(p, list, matrix, work, message, places, s),
-        Verdict::Refused(first) => calls::refused(first.number, first.place),
+    match legality::front_tests(p, list, matrix.len(), work.len()) {
+        Ok(s) => symbol_reader::read_legal(p, list, matrix, work, message, places, s),
+        Err(refusal) => ReadAnswer::from(refusal),
     }
 }
 
@@ -72,9 +81,8 @@ pub fn write_and_read(
 ) -> ReadAnswer
     ensures writes_then_reads { WritesThenReads p list.now message.now matrix.old work.old back.old result matrix.new work.new back.new }
 {
-    let written = write(p, list, message, matrix, work);
-    if written.number != 0 {
-        return calls::refused(written.number, written.place);
+    if let Err(refusal) = write_tested(p, list, message, matrix, work) {
+        return ReadAnswer::from(refusal);
     }
     read(p, list, matrix, work, back, &mut [])
 }

@@ -10,7 +10,7 @@ ghost use Rattle.jabcode_c.specs.Calls.{WritesFor, ReadsFor};
 
 use symbology::Params;
 
-// The parameters in the order of the header.
+// The parameters in the order of the header. This is no `From`: neither type is of this crate.
 fn params_of(w: &[u32; 11]) -> Params
     ensures { result ≡ params_of w.now }
 {

@@ -17,85 +17,73 @@
 // has 53,964 bytes, with which no greater C passes test 5.
 #![tactic(auto)]
 
-ghost use Rattle.std.specs.Prelude.{◌+◌, ◌≤◌, ◌<◌, ◌≡◌, IfOk, OnErr, cond, eqb, length};
+ghost use Rattle.std.specs.Prelude.{◌+◌, ◌≤◌, ◌<◌};
+ghost use Rattle.arrayvec.specs.ArrayVec.{array_vec_len};
 
+use arrayvec::ArrayVec;
 use calls::ReadAnswer;
+use program_calls::{Limited, within_limit};
+use program_input::{argument, read_full};
 use std::env::{Env, FillError};
+use std::fmt::Display;
 use std::io;
 use std::io::Read;
 use symbology::Params;
 
-// The greatest parameter.
-const MOST: u64 = 0xffff_ffff;
-
 // The first argument that is a number of the reserved list.
 const LIST_AT: usize = 14;
 
-// How many numbers of a list are taken. 1,025 entries are as bad as more.
-const LIST_ROOM: usize = 4095;
+// A reserved list, of which 4,095 numbers are taken. 1,025 entries are as bad as more.
+type List = ArrayVec<u16, 4095>;
 
-// A number with one more decimal digit. It stays at the greatest where it would pass it, or where the
-// byte is no digit.
-fn grow(n: u64, digit: u8) -> u64
-    requires { n ≤ 4294967295 }
-    ensures { result ≤ 4294967295 }
-{
-    if digit < b'0' {
-        return MOST;
+// The modules of a text. There is room for more than any matrix has.
+type Matrix = ArrayVec<u8, 65536>;
+
+// What is asked for, by the first letter of the first argument; a record is written where there is none.
+#[derive(Clone, Copy)]
+enum Mode {
+    Write,
+    Read,
+    Colours,
+}
+
+// A number with one more decimal digit. It stays at the greatest where it would pass it, or where the byte is
+// no digit: a call refuses that as it refuses one that is too great, so that it is no None.
+fn grow(n: u32, digit: u8) -> u32 {
+    match digit {
+        b'0'..=b'9' => n.saturating_mul(10).saturating_add(u32::from(digit - b'0')),
+        _ => u32::MAX,
     }
-    if b'9' < digit {
-        return MOST;
-    }
-    let grown = 10 * n + (digit - b'0') as u64;
-    if MOST < grown {
-        return MOST;
-    }
-    grown
 }
 
 fn decimal(text: &[u8]) -> u32 {
-    let mut n: u64 = 0;
-    let mut i = 0;
-    while i < text.len() {
-        n = grow(n, text[i]);
-        i += 1;
-    }
-    n as u32
+    text.iter().fold(0, |n, digit| grow(n, *digit))
 }
 
-// The number that argument i writes, and `otherwise` where it is missing, empty or longer than 16 bytes.
-fn argument(rt: &impl Env, i: usize, otherwise: u32) -> u32 {
+// The number that argument i writes, if it is not missing, empty or longer than 16 bytes.
+fn number(rt: &impl Env, i: usize) -> Option<u32> {
     let mut text = [0u8; 16];
-    let n = rt.arg(i, &mut text).unwrap_or(0);
-    if n == 0 {
-        return otherwise;
-    }
-    decimal(&text[..n])
+    let n = argument(rt, i, &mut text)?;
+    Some(decimal(&text[..n]))
 }
 
-// A default that differs with the number of colours. Those of 8 colours are the indices in Table 3 of document
-// 002; document 000 names that table too, and its public sample ends before it.
-fn by_colours(colours: u32, of_eight: u32, of_four: u32) -> u32 {
-    if colours == 4 {
-        return of_four;
-    }
-    of_eight
-}
-
+// The defaults of cyan and yellow differ with the number of colours. Those of 8 colours are the indices in
+// Table 3 of document 002; document 000 names that table too, and its public sample ends before it.
 fn params(rt: &impl Env) -> Params {
-    let colours = argument(rt, 5, 8);
+    let colours = number(rt, 5).unwrap_or(8);
+    let (cyan, yellow) = if colours == 4 { (1, 3) } else { (3, 6) };
     Params {
-        kind: argument(rt, 2, 0),
-        horizontal: argument(rt, 3, 1),
-        vertical: argument(rt, 4, 1),
-        colours: colours,
-        black: argument(rt, 6, 0),
-        cyan: argument(rt, 7, by_colours(colours, 3, 1)),
-        yellow: argument(rt, 8, by_colours(colours, 6, 3)),
-        wc: argument(rt, 9, 3),
-        wr: argument(rt, 10, 9),
-        mask: argument(rt, 11, 0),
-        turn: argument(rt, 12, 0),
+        kind: number(rt, 2).unwrap_or(0),
+        horizontal: number(rt, 3).unwrap_or(1),
+        vertical: number(rt, 4).unwrap_or(1),
+        colours,
+        black: number(rt, 6).unwrap_or(0),
+        cyan: number(rt, 7).unwrap_or(cyan),
+        yellow: number(rt, 8).unwrap_or(yellow),
+        wc: number(rt, 9).unwrap_or(3),
+        wr: number(rt, 10).unwrap_or(9),
+        mask: number(rt, 11).unwrap_or(0),
+        turn: number(rt, 12).unwrap_or(0),
     }
 }
 
@@ -103,106 +91,75 @@ fn params(rt: &impl Env) -> Params {
 fn side(version: u32) -> usize
     ensures { (17 ≤ result) × (result ≤ 145) }
 {
-    if 32 < version {
-        return 145;
-    }
-    17 + 4 * version as usize
-}
-
-fn put_entry(list: &mut [u16], at: usize, x: u16, y: u16, colour: u16)
-    requires { at + 3 ≤ length list.old }
-{
-    list[at] = x;
-    list[at + 1] = y;
-    list[at + 2] = colour;
-}
-
-fn is_either(colour: u16, a: u32, b: u32) -> bool {
-    if colour as u32 == a {
-        return true;
-    }
-    colour as u32 == b
+    17 + 4 * version.min(32) as usize
 }
 
 // How many colour indices there are; numbers of colours that are refused count as 8.
 fn palette_colours(colours: u32) -> u16
     ensures { (4 ≤ result) × (result ≤ 8) }
 {
-    if colours == 4 {
-        return 4;
+    match colours {
+        4 => 4,
+        _ => 8,
     }
-    8
 }
 
-// Stores one palette: each colour but two, one module after the other in row y from column x on. Answers
-// where the list goes on.
-fn put_palette(list: &mut [u16], at: usize, x: u16, y: u16, colours: u16, a: u32, b: u32) -> usize
-    requires { (at + 24 ≤ length list.old) × (x ≤ 145) × (colours ≤ 8) }
-    ensures { result ≤ at + 24 }
+// Adds one palette: each colour but two, one module after the other in row y from column x on.
+fn put_palette(list: &mut List, x: u16, y: u16, colours: u16, a: u32, b: u32)
+    requires { (array_vec_len list.old + 24 ≤ 4095) × (x ≤ 145) × (colours ≤ 8) }
+    ensures { array_vec_len list.new ≤ array_vec_len list.old + 24 }
 {
-    let mut n = at;
     let mut column = x;
-    let mut colour: u16 = 0;
-    while colour < colours {
-        if !is_either(colour, a, b) {
-            put_entry(list, n, column, y, colour);
-            n += 3;
+    for colour in 0..colours {
+        let index = u32::from(colour);
+        if index != a && index != b {
+            list.push(column);
+            list.push(y);
+            list.push(colour);
             column += 1;
         }
-        colour += 1;
     }
-    n
 }
 
-// Stores four palettes, each of the colours that the nearest finder or alignment pattern lacks (000,
+// Adds four palettes, each of the colours that the nearest finder or alignment pattern lacks (000,
 // 4.3.9): in the eighth row from above and from below, from the first column on and up to the last. The
 // patterns on the left have the colours `both` and `left`, those on the right `both` and `right`. The places
 // are our own, since the figure that shows them is damaged.
-fn put_palettes(p: Params, list: &mut [u16], both: u32, left: u32, right: u32) -> usize
-    requires { 96 ≤ length list.old }
-    ensures { result ≤ 96 }
+fn put_palettes(p: Params, list: &mut List, both: u32, left: u32, right: u32)
+    requires { array_vec_len list.old + 96 ≤ 4095 }
+    ensures { array_vec_len list.new ≤ array_vec_len list.old + 96 }
 {
     let colours = palette_colours(p.colours);
     let x = side(p.horizontal) as u16 + 3 - colours;
     let y = side(p.vertical) as u16 - 7;
-    let n = put_palette(list, 0, 1, 8, colours, both, left);
-    let m = put_palette(list, n, x, 8, colours, both, right);
-    let k = put_palette(list, m, x, y, colours, both, right);
-    put_palette(list, k, 1, y, colours, both, left)
+    put_palette(list, 1, 8, colours, both, left);
+    put_palette(list, x, 8, colours, both, right);
+    put_palette(list, x, y, colours, both, right);
+    put_palette(list, 1, y, colours, both, left);
 }
 
 // The list of a symbol where none is given. A finder pattern has black, and cyan on the left or yellow on
 // the right; an alignment pattern has cyan and yellow.
-fn default_list(p: Params, list: &mut [u16]) -> usize
-    requires { 96 ≤ length list.old }
-    ensures { result ≤ 96 }
+fn put_default(p: Params, list: &mut List)
+    requires { array_vec_len list.old + 96 ≤ 4095 }
+    ensures { array_vec_len list.new ≤ array_vec_len list.old + 96 }
 {
     if p.kind == 0 {
-        return put_palettes(p, list, p.black, p.cyan, p.yellow);
+        put_palettes(p, list, p.black, p.cyan, p.yellow);
+    } else {
+        put_palettes(p, list, p.cyan, p.yellow, p.yellow);
     }
-    put_palettes(p, list, p.cyan, p.yellow, p.yellow)
 }
 
-// A number of a list that is given. One above 65,535 is as far outside every symbol as that.
-fn short(n: u32) -> u16 {
-    if 65535 < n {
-        return 65535;
-    }
-    n as u16
-}
-
-fn take_numbers(rt: &impl Env, list: &mut [u16], count: usize) -> usize
-    ensures { result ≤ length list.old }
-{
-    let mut n = 0;
-    while n < list.len() {
-        if count <= n {
-            return n;
+// Adds the numbers of a list that is given. One above 65,535, or none, is as far outside every symbol as that.
+fn put_given(rt: &impl Env, list: &mut List, arguments: usize) {
+    for i in LIST_AT..arguments {
+        if list.is_full() {
+            return;
         }
-        list[n] = short(argument(rt, LIST_AT + n, 65535));
-        n += 1;
+        let n = number(rt, i).unwrap_or(u32::MAX);
+        list.push(u16::try_from(n).unwrap_or(u16::MAX));
     }
-    n
 }
 
 // Whether there is an argument i.
@@ -210,7 +167,8 @@ fn is_given(rt: &impl Env, i: usize) -> bool {
     !matches!(rt.arg(i, &mut []), Err(FillError::NotPresent))
 }
 
-// How many arguments there are, the program's name among them.
+// How many arguments there are, the program's name among them: fewer than the greatest number, which only
+// ends the search.
 fn argument_count(rt: &impl Env) -> usize {
     for i in 0..usize::MAX {
         if !is_given(rt, i) {
@@ -220,36 +178,23 @@ fn argument_count(rt: &impl Env) -> usize {
     usize::MAX
 }
 
-// Stores the reserved list and answers its length.
-fn take_list(rt: &impl Env, p: Params, list: &mut [u16]) -> usize
-    requires { 96 ≤ length list.old }
-    ensures { result ≤ length list.old }
-{
+// The reserved list.
+fn reserved_list(rt: &impl Env, p: Params) -> List {
+    let mut list = List::new();
     let arguments = argument_count(rt);
     if arguments < LIST_AT {
-        return default_list(p, list);
+        put_default(p, &mut list);
+    } else {
+        put_given(rt, &mut list, arguments);
     }
-    take_numbers(rt, list, arguments - LIST_AT)
+    list
 }
 
-// Prints numbers, each with a space behind it.
-fn print_numbers(rt: &impl Print, numbers: &[usize]) -> io::Result<()> {
-    let mut i = 0;
-    while i < numbers.len() {
-        let number = numbers[i];
+// Prints numbers, each with a space behind it. The space is part of the format, a literal, so another program
+// with another format has its own.
+fn print_numbers<N: Display>(rt: &impl Print, numbers: &[N]) -> io::Result<()> {
+    for number in numbers {
         print!(rt; "{number} ")?;
-        i += 1;
-    }
-    Ok(())
-}
-
-// The same of the places of the repairs.
-fn print_places(rt: &impl Print, places: &[u16]) -> io::Result<()> {
-    let mut i = 0;
-    while i < places.len() {
-        let place = places[i];
-        print!(rt; "{place} ")?;
-        i += 1;
     }
     Ok(())
 }
@@ -259,15 +204,7 @@ fn end_line(rt: &impl Print) -> io::Result<()> {
 }
 
 fn print_colours(rt: &impl Print, p: Params) -> io::Result<()> {
-    print_numbers(
-        rt,
-        &[
-            p.colours as usize,
-            p.black as usize,
-            p.cyan as usize,
-            p.yellow as usize,
-        ],
-    )?;
+    print_numbers(rt, &[p.colours, p.black, p.cyan, p.yellow])?;
     end_line(rt)
 }
 
@@ -315,26 +252,17 @@ fn print_answer(
 }
 
 fn as_digits(matrix: &mut [u8]) {
-    let mut i = 0;
-    while i < matrix.len() {
-        matrix[i] = 48 + matrix[i] % 10;
-        i += 1;
+    for module in matrix.iter_mut() {
+        *module = b'0' + *module % 10;
     }
 }
 
 fn print_rows(rt: &impl Print, digits: &[u8], columns: usize) -> io::Result<()>
-    requires { (0 < columns) × (columns ≤ 145) }
+    requires { 0 < columns }
 {
-    let mut from = 0;
-    while from < digits.len() {
-        let left = digits.len() - from;
-        if left < columns {
-            return Ok(());
-        }
-        let to = from + columns;
-        rt.write_all(&digits[from..to])?;
+    for row in digits.chunks_exact(columns) {
+        rt.write_all(row)?;
         rt.write_all(b"\n")?;
-        from = to;
     }
     Ok(())
 }
@@ -342,17 +270,16 @@ fn print_rows(rt: &impl Print, digits: &[u8], columns: usize) -> io::Result<()>
 // Writes a record into a matrix of the symbol's modules, and prints it or the refusal.
 fn write_record(
     rt: &impl Print,
-    p: Params,
+    limited: Limited,
     list: &[u16],
     record: &[u8],
     matrix: &mut [u8],
-) -> io::Result<()>
-    requires { (p.wc ≡ 3) × (p.wr ≡ 9) }
-{
+) -> io::Result<()> {
+    let p = limited.p;
     let mut work = [0u8; 53964];
     let answer = jabcode::write(p, list, record, matrix, &mut work);
     if answer.number != 0 {
-        let refusal = calls::refused(answer.number, answer.place);
+        let refusal = ReadAnswer::from(answer);
         print_answer(rt, p, list, refusal, record.len(), matrix.len())?;
         return end_line(rt);
     }
@@ -360,164 +287,100 @@ fn write_record(
     print_rows(rt, matrix, side(p.horizontal))
 }
 
-// Reads until the buffer is full or the input ends, and answers how many bytes were read.
-fn read_full(input: &mut impl Read, buffer: &mut [u8]) -> io::Result<usize>
-    ensures { IfOk result (λ n. n ≤ length buffer.new) }
-{
-    let mut done = 0;
-    while done < buffer.len() {
-        let n = input.read(&mut buffer[done..])?;
-        if n == 0 {
-            break;
-        }
-        done += n;
-    }
-    Ok(done)
-}
-
 // Writes a record. One that fills its buffer has no room in any symbol, whatever stands behind it.
-fn write_label(rt: &impl Print, input: &mut impl Read, p: Params, list: &[u16]) -> io::Result<()>
-    requires { (p.wc ≡ 3) × (p.wr ≡ 9) }
-{
+fn write_label(
+    rt: &impl Print,
+    input: &mut impl Read,
+    limited: Limited,
+    list: &[u16],
+) -> io::Result<()> {
     let mut record = [0u8; 65536];
     let mut matrix = [0u8; 65536];
     let n = read_full(input, &mut record)?;
-    let modules = area(side(p.horizontal), side(p.vertical));
-    write_record(rt, p, list, &record[..n], &mut matrix[..modules])
+    let modules = area(side(limited.p.horizontal), side(limited.p.vertical));
+    write_record(rt, limited, list, &record[..n], &mut matrix[..modules])
 }
 
 fn is_blank(b: u8) -> bool {
-    if b == b' ' {
-        return true;
-    }
-    if b == b'\n' {
-        return true;
-    }
-    b == b'\r'
+    matches!(b, b' ' | b'\n' | b'\r')
 }
 
 // The colour index that a digit writes. Any other byte is no colour index: 255, which a read refuses.
 fn module_of(b: u8) -> u8 {
-    if b < b'0' {
-        return 255;
+    match b {
+        b'0'..=b'9' => b - b'0',
+        _ => 255,
     }
-    if b'9' < b {
-        return 255;
-    }
-    b - b'0'
 }
 
-// Stores the module that a byte of a text is, if it is one, as far as the buffer reaches. Answers where the
-// matrix goes on.
-fn put_module(matrix: &mut [u8], n: usize, b: u8) -> usize
-    requires { n ≤ length matrix.old }
-    ensures { result ≤ length matrix.old }
-{
-    if is_blank(b) {
-        return n;
+// Adds the modules of a text, as far as the matrix has room.
+fn put_modules(text: &[u8], matrix: &mut Matrix) {
+    for b in text {
+        if !is_blank(*b) && !matrix.is_full() {
+            matrix.push(module_of(*b));
+        }
     }
-    if matrix.len() <= n {
-        return n;
-    }
-    matrix[n] = module_of(b);
-    n + 1
 }
 
-fn put_modules(text: &[u8], matrix: &mut [u8], at: usize) -> usize
-    requires { at ≤ length matrix.old }
-    ensures { result ≤ length matrix.old }
-{
-    let mut n = at;
-    let mut i = 0;
-    while i < text.len() {
-        n = put_module(matrix, n, text[i]);
-        i += 1;
-    }
-    n
-}
-
-// Stores the modules of standard input, read piece by piece to its end, and answers how many there are.
-// The buffer is longer than any matrix: a text that fills it is refused with 4. Where a read fails, the buffer
-// may hold modules read before.
-fn read_modules(input: &mut impl Read, matrix: &mut [u8]) -> io::Result<usize>
-    ensures ok { IfOk result (λ n. n ≤ length matrix.old) }
-    ensures err { OnErr result (length matrix.new ≡ length matrix.old) }
-{
+// Adds the modules of standard input, read piece by piece to its end. A text that fills the matrix is
+// refused with 4. Where a read fails, the matrix may hold modules read before. `side_lister` reads so too: of
+// what the steps leave, one function over both as closures could promise nothing.
+fn read_modules(input: &mut impl Read, matrix: &mut Matrix) -> io::Result<()> {
     let mut space = [0u8; 4096];
-    let mut n = 0;
     for _ in 0..u64::MAX {
-        let m = input.read(&mut space)?;
-        if m == 0 {
+        let n = input.read(&mut space)?;
+        if n == 0 {
             break;
         }
-        n = put_modules(&space[..m], matrix, n);
+        put_modules(&space[..n], matrix);
     }
-    Ok(n)
-}
-
-// How many places a read stored: one for each repair on 0, and none on a refusal.
-fn stored_places(answer: ReadAnswer) -> usize
-    ensures { result ≡ cond (eqb answer.number 0) answer.repairs 0 }
-{
-    if answer.number != 0 {
-        return 0;
-    }
-    answer.repairs
+    Ok(())
 }
 
 // Reads a text and prints the answer, the places of the repairs and the message. The message fits: it has no
 // more bytes than the symbol net bits, and those are fewer than 4,096. So do the places: a symbol of C at most
 // 1,047 has at most 348 checks, and there are no more repairs.
-fn read_label(rt: &impl Print, input: &mut impl Read, p: Params, list: &[u16]) -> io::Result<()>
-    requires { (p.wc ≡ 3) × (p.wr ≡ 9) }
-{
-    let mut matrix = [0u8; 65536];
+fn read_label(
+    rt: &impl Print,
+    input: &mut impl Read,
+    limited: Limited,
+    list: &[u16],
+) -> io::Result<()> {
+    let mut matrix = Matrix::new();
     let mut work = [0u8; 53964];
     let mut message = [0u8; 4096];
     let mut places = [0u16; 348];
-    let modules = read_modules(input, &mut matrix)?;
-    let answer = jabcode::read(
-        p,
-        list,
-        &matrix[..modules],
-        &mut work,
-        &mut message,
-        &mut places,
-    );
-    print_answer(rt, p, list, answer, answer.length, modules)?;
-    let stored = stored_places(answer);
-    print_places(rt, &places[..stored])?;
+    read_modules(input, &mut matrix)?;
+    let modules = matrix.as_slice();
+    let reading = program_calls::read(limited, list, modules, &mut work, &mut message, &mut places);
+    let length = reading.answer.length;
+    print_answer(rt, limited.p, list, reading.answer, length, modules.len())?;
+    print_numbers(rt, &places[..reading.stored])?;
     end_line(rt)?;
-    let length = answer.length;
     rt.write_all(&message[..length])
 }
 
-// The first letter of the first argument, and that of `write` where there is none.
-fn mode(rt: &impl Env) -> u8 {
+fn mode_asked(rt: &impl Env) -> Mode {
     let mut text = [0u8; 16];
-    let n = rt.arg(1, &mut text).unwrap_or(0);
-    if n == 0 {
-        return b'w';
+    if argument(rt, 1, &mut text).is_none() {
+        return Mode::Write;
     }
-    text[0]
+    match text[0] {
+        b'c' => Mode::Colours,
+        b'r' => Mode::Read,
+        _ => Mode::Write,
+    }
 }
 
 fn main(rt: HostRuntime) -> io::Result<()> {
     let p = params(&rt);
-    let mut list = [0u16; LIST_ROOM];
-    let n = take_list(&rt, p, &mut list);
-    let mode = mode(&rt);
-    if mode == b'c' {
-        return print_colours(&rt, p);
+    let list = reserved_list(&rt, p);
+    match (mode_asked(&rt), within_limit(p)) {
+        (Mode::Colours, _) => print_colours(&rt, p),
+        (_, None) => print_beyond(&rt),
+        (Mode::Write, Some(limited)) => {
+            write_label(&rt, &mut rt.stdin(), limited, list.as_slice())
+        }
+        (Mode::Read, Some(limited)) => read_label(&rt, &mut rt.stdin(), limited, list.as_slice()),
     }
-    if p.wc != 3 {
-        return print_beyond(&rt);
-    }
-    if p.wr != 9 {
-        return print_beyond(&rt);
-    }
-    if mode == b'r' {
-        return read_label(&rt, &mut rt.stdin(), p, &list[..n]);
-    }
-    write_label(&rt, &mut rt.stdin(), p, &list[..n])
 }

@@ -12,9 +12,7 @@ use lib.ListN.{get_or}
 use borrow.Author.Tests.{eqb-true, lt-ltb, ltb-true}
 use Rattle.symbology.specs.declared.Params.{Params}
 use Rattle.symbology.specs.declared.PatternColour.{PatternColour}
-use Rattle.symbology.specs.declared.PatternColour.TheVariants.{Outside, Black, Cyan, Yellow}
-use Rattle.symbology.specs.declared.Cell.{Cell}
-use Rattle.symbology.specs.declared.Cell.TheVariants.{Data, Fixed}
+use Rattle.std.specs.Prelude.{Option, Some, None}
 use Rattle.symbology.specs.Ranges.{lowest}
 use Rattle.symbology.specs.Sides.{columns, rows}
 use Rattle.symbology.specs.Patterns.{covered, pattern_colour}
@@ -61,7 +59,7 @@ entry_first p l s k h =
         entries_differ p l s i k less h same.0 same.1
 
 pub entry_cell : (p : Params) (l : List ℕ) → SoundList p l → (k : ℕ) → k < entries l
-    → cell_of p l (entry_column l k) (entry_row l k) ≡ Fixed (entry_colour l k)
+    → cell_of p l (entry_column l k) (entry_row l k) ≡ Some (entry_colour l k)
 unfolding cell_of
 entry_cell p l s k h = rw (entry_first p l s k h, lt-ltb k (entries l) h) refl
 
@@ -93,22 +91,16 @@ pattern_cell_lem p l s x y on = rw (pattern_unlisted p l s x y on) refl
 pub fixed_kept : (p : Params) (l bs : List ℕ) (c r f : ℕ)
     → c < columns p
     → r < rows p
-    → cell_at p l c r ≡ Fixed f
+    → cell_at p l c r ≡ Some f
     → get_or (filled p l bs) (r * columns p + c) 0 ≡ f
 unfolding module_at on_cell
-fixed_kept p l bs c r f h k e = get_or_filled p l bs c r h k ∙ ap (λ (z : Cell). on_cell z (data_module p l bs c r)) e
+fixed_kept p l bs c r f h k e = get_or_filled p l bs c r h k ∙ ap (λ (z : Option ℕ). on_cell z (data_module p l bs c r)) e
 
 -- a colour that a pattern gives covers its module
-fixed_covers : (p : Params) (colour : PatternColour) (v : ℕ) → pattern_cell p colour ≡ Fixed v → covered colour ≡ true
+fixed_covers : (p : Params) (colour : Option PatternColour) (v : ℕ) → pattern_cell p colour ≡ Some v → covered colour ≡ true
 unfolding pattern_cell covered
-fixed_covers p Outside v e = absurd (let z : ◌≡◌ {A = ℕ} 0 1 = ap number e in omega arith)
-  where
-    number : Cell → ℕ
-    number Data = 0
-    number (Fixed f) = 1
-fixed_covers p Black v e = refl
-fixed_covers p Cyan v e = refl
-fixed_covers p Yellow v e = refl
+fixed_covers p None v e = cc
+fixed_covers p (Some colour) v e = refl
 
 -- Each module of a pattern has the pattern's colour index.
 pub pattern_kept : (p : Params) (l bs : List ℕ)
@@ -116,7 +108,7 @@ pub pattern_kept : (p : Params) (l bs : List ℕ)
     → (c r v : ℕ)
     → c < columns p
     → r < rows p
-    → pattern_cell p (pattern_colour p (c + 1) (r + 1)) ≡ Fixed v
+    → pattern_cell p (pattern_colour p (c + 1) (r + 1)) ≡ Some v
     → get_or (filled p l bs) (r * columns p + c) 0 ≡ v
 pattern_kept p l bs s c r v h k e =
     let on : covered (pattern_colour p (c + 1) (r + 1)) ≡ true = fixed_covers p (pattern_colour p (c + 1) (r + 1)) v e in
@@ -133,7 +125,7 @@ entry_kept p l bs s k h =
     let r : ℕ = entry_row l k - 1 in
     let column : c + 1 ≡ entry_column l k = omega (arith, (s.entry k h).column_least) in
     let row : r + 1 ≡ entry_row l k = omega (arith, (s.entry k h).row_least) in
-    let cell : cell_at p l c r ≡ Fixed (entry_colour l k) = rw (column, row) (entry_cell p l s k h) in
+    let cell : cell_at p l c r ≡ Some (entry_colour l k) = rw (column, row) (entry_cell p l s k h) in
     let e = s.entry k h in
     fixed_kept p l bs c r (entry_colour l k)
     (omega (arith, e.column_most, e.column_least)) (omega (arith, e.row_most, e.row_least)) cell

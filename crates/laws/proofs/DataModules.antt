@@ -9,9 +9,7 @@ use lib.Dec.{ltb}
 use borrow.Author.Tests.{le-ltb}
 use Rattle.symbology.specs.declared.Params.{Params}
 use Rattle.symbology.specs.declared.PatternColour.{PatternColour}
-use Rattle.symbology.specs.declared.PatternColour.TheVariants.{Outside, Black, Cyan, Yellow}
-use Rattle.symbology.specs.declared.Cell.TheVariants.{Fixed}
-use Rattle.symbology.specs.declared.ListVerdict.TheVariants.{Sound}
+use Rattle.std.specs.Prelude.{Option, Some, None, Ok}
 use Rattle.symbology.specs.Ranges.{tally, sum_from}
 use Rattle.symbology.specs.Sides.{columns, rows}
 use Rattle.symbology.specs.Patterns.{covered, pattern_colour}
@@ -37,15 +35,12 @@ unfolding cell_of is_data pattern_cell covered
 is_data_lem p l x y =
     go (ltb (first_entry l (entries l) x y) (entries l)) (entry_colour l (first_entry l (entries l) x y)) (pattern_colour p x y)
   where
-    go : (t : Bool) (v : ℕ) (colour : PatternColour) → is_data (cond t (Fixed v) (pattern_cell p colour)) ≡ (not (covered colour) && not t)
-    go true v Outside = refl
-    go true v Black = refl
-    go true v Cyan = refl
-    go true v Yellow = refl
-    go false v Outside = refl
-    go false v Black = refl
-    go false v Cyan = refl
-    go false v Yellow = refl
+    go : (t : Bool) (v : ℕ) (colour : Option PatternColour)
+        → is_data (cond t (Some v) (pattern_cell p colour)) ≡ (not (covered colour) && not t)
+    go true v None = refl
+    go true v (Some s) = refl
+    go false v None = refl
+    go false v (Some s) = refl
 
 -- ---- the modules left free by patterns and the first n entries
 
@@ -134,7 +129,7 @@ data_free p l =
     (λ c a b. sum_ext (λ r. tally (is_data (cell_of p l (c + 1) (r + 1)))) (λ r. tally (free p l (entries l) (c + 1) (r + 1))) 0 (rows p)
     (λ r d e. ap tally (is_data_lem p l (c + 1) (r + 1))))
 
-module _ (p : Params) (l : List ℕ) (range : in_range p ≡ true) (sound : list_verdict p l ≡ Sound) where
+module _ (p : Params) (l : List ℕ) (range : in_range p ≡ true) (sound : list_verdict p l ≡ Ok tt) where
   -- Every module is a data module, one of a pattern, or one of an entry.
   pub module_count : sum_from 0 (columns p) (column_data p l (rows p)) + entries l + pattern_modules p.kind p.horizontal p.vertical
       ≡ columns p * rows p

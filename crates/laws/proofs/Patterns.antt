@@ -12,7 +12,7 @@ use lib.ListN.{length}
 use borrow.Author.Tests.{eqb-true}
 use Rattle.symbology.specs.declared.Params.{Params}
 use Rattle.symbology.specs.declared.Near.{Near}
-use Rattle.symbology.specs.declared.Near.TheVariants.{Apart, Core}
+use Rattle.std.specs.Prelude.{Option, Some, None}
 use Rattle.symbology.specs.declared.Pattern.{Pattern}
 use Rattle.symbology.specs.declared.PatternColour.{PatternColour}
 use Rattle.symbology.specs.declared.PatternColour.TheVariants.{Cyan, Yellow}
@@ -45,19 +45,18 @@ finder_size true false = refl
 finder_size false true = refl
 finder_size false false = refl
 
-alignment_size : (falling : Bool) (core ring : PatternColour) → covered core ≡ true → covered ring ≡ true
-    → size (record { reach = 1; falling = falling; core = core; ring = ring }) ≡ 7
+alignment_size : (falling : Bool) (core ring : PatternColour) → size (record { reach = 1; falling = falling; core = core; ring = ring }) ≡ 7
 unfolding in_squares colour_in sum_from covered
-alignment_size true core ring p q = rw (p, q)
-alignment_size false core ring p q = rw (p, q)
+alignment_size true core ring = refl
+alignment_size false core ring = refl
 
 corner_size_lem : (upper : Bool) → size (corner_alignment upper) ≡ 7
 unfolding corner_alignment covered
-corner_size_lem upper = alignment_size upper Cyan Yellow refl refl
+corner_size_lem upper = alignment_size upper Cyan Yellow
 
 inner_size : (turn i j : ℕ) → size (inner_alignment turn i j) ≡ 7
 unfolding inner_alignment covered
-inner_size turn i j = alignment_size (cond (eqb ((i + j) % 2) 1) (eqb turn 0) (not (eqb turn 0))) Yellow Cyan refl refl
+inner_size turn i j = alignment_size (cond (eqb ((i + j) % 2) 1) (eqb turn 0) (not (eqb turn 0))) Yellow Cyan
 
 -- a core number is the first or the last of p
 abbrev outer : ℕ → ℕ → Bool
@@ -117,19 +116,21 @@ sizes primary p q a b c d =
 
 module _ (s : ℕ → ℕ → Pattern) (down : List ℕ) (height : ℕ) (fit : spaced 1 (1 + height) down ≡ true) where
   -- the modules that patterns cover in a column that stands so to the cores
-  column_count : (near : Near)
+  column_count : (near : Option Near)
       → sum_from 1 height (λ y. tally (covered (meeting s near (near_core 0 down y))))
       ≡ count_near (λ i o. sum_from 0 (length down) (λ j. sum_from 0 5 (coverage (s i j) o))) near
   unfolding meeting covered
-  column_count Apart = sum_zero (λ y. 0) 1 height (λ y p q. refl)
-  column_count (Core i o) =
-      sum_ext (λ y. tally (covered (meeting s (Core i o) (near_core 0 down y))))
-      (λ y. count_near (λ j. coverage (s i j) o) (near_core 0 down y)) 1 height (λ y p q. row (near_core 0 down y))
-      ∙ windows (λ j. coverage (s i j) o) 0 1 height down fit
+  column_count None = sum_zero (λ y. 0) 1 height (λ y p q. refl)
+  column_count (Some across) =
+      sum_ext (λ y. tally (covered (meeting s (Some across) (near_core 0 down y))))
+      (λ y. count_near (λ j. coverage (s across.core j) across.offset) (near_core 0 down y)) 1 height
+      (λ y p q. row (near_core 0 down y))
+      ∙ windows (λ j. coverage (s across.core j) across.offset) 0 1 height down fit
     where
-      row : (near : Near) → tally (covered (meeting s (Core i o) near)) ≡ count_near (λ j. coverage (s i j) o) near
-      row Apart = refl
-      row (Core j u) = refl
+      row : (near : Option Near)
+          → tally (covered (meeting s (Some across) near)) ≡ count_near (λ j. coverage (s across.core j) across.offset) near
+      row None = refl
+      row (Some down) = refl
 
   -- the modules that patterns cover are those of the patterns at all core numbers
   cover_count : (across : List ℕ) (width : ℕ) → spaced 1 (1 + width) across ≡ true

@@ -14,9 +14,8 @@ use lib.Seq.{take-add, take-length}
 use borrow.Author.Tests.{ltb-true, lt-leb}
 use Rattle.symbology.specs.declared.Params.{Params}
 use Rattle.symbology.specs.declared.PatternColour.{PatternColour}
-use Rattle.symbology.specs.declared.PatternColour.TheVariants.{Outside, Black, Cyan, Yellow}
-use Rattle.symbology.specs.declared.Cell.{Cell}
-use Rattle.symbology.specs.declared.Cell.TheVariants.{Data, Fixed}
+use Rattle.symbology.specs.declared.PatternColour.TheVariants.{Black, Cyan, Yellow}
+use Rattle.std.specs.Prelude.{Option, Some, None}
 use Rattle.symbology.specs.Ranges.{tally, sum_from, join_from}
 use Rattle.symbology.specs.Bits.{AllBits, value, bits}
 use Rattle.symbology.specs.Sides.{columns, rows}
@@ -85,19 +84,19 @@ filled_masked p l bs =
     let plain : get_or (unmasked p l bs) i 0 ≡ on_cell (cell_at p l c r) v = get_d_tabulate (rows p * columns p) _ 0 i h in
     rw plain (go (cell_at p l c r) v m))
   where
-    go : (z : Cell) (v m : ℕ) → on_cell z (bit_xor v m) ≡ cond (is_data z) (bit_xor (on_cell z v) m) (on_cell z v)
-    go Data v m = refl
-    go (Fixed f) v m = refl
+    go : (z : Option ℕ) (v m : ℕ) → on_cell z (bit_xor v m) ≡ cond (is_data z) (bit_xor (on_cell z v) m) (on_cell z v)
+    go None v m = refl
+    go (Some f) v m = refl
 
 -- ---- every module filled is a colour index
 
 -- a pattern's module, and any cell's, holds a colour index where v and those of the list are colour indices
-pattern_below : (p : Params) (s : PatternColour) (v : ℕ) → InRange p → v < p.colours → on_cell (pattern_cell p s) v < p.colours
+pattern_below : (p : Params) (s : Option PatternColour) (v : ℕ) → InRange p → v < p.colours → on_cell (pattern_cell p s) v < p.colours
 unfolding pattern_cell on_cell
-pattern_below p Outside v e h = h
-pattern_below p Black v e h = e.black_below
-pattern_below p Cyan v e h = e.cyan_below
-pattern_below p Yellow v e h = e.yellow_below
+pattern_below p None v e h = h
+pattern_below p (Some Black) v e h = e.black_below
+pattern_below p (Some Cyan) v e h = e.cyan_below
+pattern_below p (Some Yellow) v e h = e.yellow_below
 
 cell_below : (p : Params) (l : List ℕ) (x y v : ℕ) → InRange p → ((k : ℕ) → k < entries l → entry_colour l k < p.colours)
     → v < p.colours → on_cell (cell_of p l x y) v < p.colours
@@ -105,7 +104,7 @@ unfolding cell_of on_cell
 cell_below p l x y v e own h = go (ltb (first_entry l (entries l) x y) (entries l)) (ltb-true (first_entry l (entries l) x y) (entries l))
   where
     go : (b : Bool) → (b ≡ true → first_entry l (entries l) x y < entries l)
-        → on_cell (cond b (Fixed (entry_colour l (first_entry l (entries l) x y))) (pattern_cell p (pattern_colour p x y))) v < p.colours
+        → on_cell (cond b (Some (entry_colour l (first_entry l (entries l) x y))) (pattern_cell p (pattern_colour p x y))) v < p.colours
     go true f = own (first_entry l (entries l) x y) (f refl)
     go false f = pattern_below p (pattern_colour p x y) v e h
 
@@ -178,9 +177,9 @@ pub length_module : (p : Params) (l matrix : List ℕ) (c r : ℕ)
 unfolding bits_at cell_bits is_data
 length_module p l matrix c r = go (cell_at p l c r) (bit_xor (get_or matrix (r * columns p + c) 0) (mask_at p.mask p.colours c r))
   where
-    go : (z : Cell) (v : ℕ) → length (cell_bits z (bits (bits_per_module p.colours) v)) ≡ bits_per_module p.colours * tally (is_data z)
-    go Data v = length_bits (bits_per_module p.colours) v ∙ sym (mul-one (bits_per_module p.colours))
-    go (Fixed f) v = sym (mul-zero (bits_per_module p.colours))
+    go : (z : Option ℕ) (v : ℕ) → length (cell_bits z (bits (bits_per_module p.colours) v)) ≡ bits_per_module p.colours * tally (is_data z)
+    go None v = length_bits (bits_per_module p.colours) v ∙ sym (mul-one (bits_per_module p.colours))
+    go (Some f) v = sym (mul-zero (bits_per_module p.colours))
 
 length_column : (p : Params) (l matrix : List ℕ) (n c : ℕ)
     → length (join_from 0 n (λ y. bits_at p l matrix c y)) ≡ bits_per_module p.colours * column_data p l n c
@@ -217,9 +216,9 @@ pub module_bits : (p : Params) (l matrix : List ℕ) (c r : ℕ) → AllBits (bi
 unfolding bits_at cell_bits
 module_bits p l matrix c r = go (cell_at p l c r) (bit_xor (get_or matrix (r * columns p + c) 0) (mask_at p.mask p.colours c r))
   where
-    go : (z : Cell) (v : ℕ) → AllBits (cell_bits z (bits (bits_per_module p.colours) v))
-    go Data v = bits_are (bits_per_module p.colours) v
-    go (Fixed f) v = λ i. omega arith
+    go : (z : Option ℕ) (v : ℕ) → AllBits (cell_bits z (bits (bits_per_module p.colours) v))
+    go None v = bits_are (bits_per_module p.colours) v
+    go (Some f) v = λ i. omega arith
 
 -- Every matrix gives bits.
 pub sampled_bits : (p : Params) (l matrix : List ℕ) → AllBits (sampled p l matrix)
@@ -246,18 +245,18 @@ module _ (p : Params) (l bs : List ℕ) (are : AllBits bs) (size : length bs ≡
   unfolding bits_at module_at unmasked_index data_module on_cell cell_bits is_data
   module_filled c r h k = rw (get_or_filled p l bs c r h k) (go (cell_at p l c r) (bits_inside p l c r h k))
     where
-      go : (z : Cell)
+      go : (z : Option ℕ)
           → (is_data z ≡ true
           → bits_per_module p.colours * rank p l c r + bits_per_module p.colours ≤ bits_per_module p.colours * data_total p l)
           → cell_bits z (bits (bits_per_module p.colours) (bit_xor (on_cell z (data_module p l bs c r)) (mask_at p.mask p.colours c r)))
           ≡ take (bits_per_module p.colours * tally (is_data z)) (drop (bits_per_module p.colours * rank p l c r) bs)
-      go Data inside =
+      go None inside =
           let depth : ℕ = bits_per_module p.colours in
           let rest : List ℕ = drop (depth * rank p l c r) bs in
           let enough : depth ≤ length rest = omega (arith, length-drop (depth * rank p l c r) bs, inside refl) in
           rw (masked_twice p c r (value (take depth rest)), mul-one depth)
           (bits_take depth rest (drop_bits (depth * rank p l c r) bs are) enough)
-      go (Fixed f) inside = rw (mul-zero (bits_per_module p.colours))
+      go (Some f) inside = rw (mul-zero (bits_per_module p.colours))
 
   -- down a column, and from column to column
   down : (c : ℕ) → c < columns p → taken p l (filled p l bs) c 0 ≡ take (bits_per_module p.colours * rank p l c 0) bs

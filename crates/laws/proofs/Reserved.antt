@@ -10,7 +10,7 @@ use lib.Dec.{leb, ltb, eqb}
 use lib.ListN.{length}
 use borrow.Author.Tests.{leb-true, leb-false, eqb-true, ltb-false, le-ltb, eq-eqb, ne_eqb, not-false}
 use Rattle.symbology.specs.declared.Params.{Params}
-use Rattle.symbology.specs.declared.ListVerdict.TheVariants.{Sound, Fault}
+use Rattle.std.specs.Prelude.{Result, Ok, Err}
 use Rattle.symbology.specs.Ranges.{within, lowest}
 use Rattle.symbology.specs.Sides.{columns, rows}
 use Rattle.symbology.specs.Patterns.{covered, pattern_colour}
@@ -63,31 +63,31 @@ sound_entry p l k e =
 
 -- ---- the verdict
 
-fault_sound : (place : ℕ) → Fault place ≡ Sound → ⊥
-fault_sound place e = let z : ◌≡◌ {A = ℕ} 0 1 = cc in omega arith
+fault_sound : (place : ℕ) → ◌≡◌ {A = Result (Unit {0}) ℕ} (Err place) (Ok tt) → ⊥
+fault_sound place e = cc
 
-verdict_none : (place n : ℕ) → entry_verdict place n ≡ Sound → n ≤ place
+verdict_none : (place n : ℕ) → entry_verdict place n ≡ Ok tt → n ≤ place
 unfolding entry_verdict
 verdict_none place n e = go (ltb place n) (ltb-false place n) e
   where
-    go : (t : Bool) → (t ≡ false → n ≤ place) → cond t (Fault place) Sound ≡ Sound → n ≤ place
+    go : (t : Bool) → (t ≡ false → n ≤ place) → ◌≡◌ {A = Result (Unit {0}) ℕ} (cond t (Err place) (Ok tt)) (Ok tt) → n ≤ place
     go true f h = absurd (fault_sound place h)
     go false f h = f refl
 
-verdict_parts : (p : Params) (l : List ℕ) → list_verdict p l ≡ Sound
+verdict_parts : (p : Params) (l : List ℕ) → list_verdict p l ≡ Ok tt
     → (length l % 3 ≡ 0) × (entries l ≤ 1024) × (entries l ≤ lowest (bad_at p l) (entries l) 0)
 unfolding list_verdict
 verdict_parts p l = go (eqb (length l % 3) 0) (leb (entries l) 1024) (eqb-true (length l % 3) 0) (leb-true (entries l) 1024)
   where
     go : (a b : Bool) → (a ≡ true → length l % 3 ≡ 0) → (b ≡ true → entries l ≤ 1024)
-        → cond a (cond b (entry_verdict (lowest (bad_at p l) (entries l) 0) (entries l)) (Fault 1024)) (Fault (entries l)) ≡ Sound
+        → cond a (cond b (entry_verdict (lowest (bad_at p l) (entries l) 0) (entries l)) (Err 1024)) (Err (entries l)) ≡ Ok tt
         → (length l % 3 ≡ 0) × (entries l ≤ 1024) × (entries l ≤ lowest (bad_at p l) (entries l) 0)
     go true true f g h = (f refl, g refl, verdict_none (lowest (bad_at p l) (entries l) 0) (entries l) h)
     go true false f g h = absurd (fault_sound 1024 h)
     go false b f g h = absurd (fault_sound (entries l) h)
 
 -- A list that passes test 2 has whole entries, at most 1,024, and each of them is sound.
-pub sound_list : (p : Params) (l : List ℕ) → list_verdict p l ≡ Sound → SoundList p l
+pub sound_list : (p : Params) (l : List ℕ) → list_verdict p l ≡ Ok tt → SoundList p l
 sound_list p l sound =
     let parts : (length l % 3 ≡ 0) × (entries l ≤ 1024) × (entries l ≤ lowest (bad_at p l) (entries l) 0) = verdict_parts p l sound in
     record {

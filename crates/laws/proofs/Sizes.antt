@@ -9,7 +9,7 @@ use native.Mathlib.Omega.{arith}
 use lib.ListN.{length}
 use Rattle.symbology.specs.declared.Params.{Params}
 use Rattle.symbology.specs.declared.Sizes.{Sizes}
-use Rattle.symbology.specs.declared.ListVerdict.TheVariants.{Sound}
+use Rattle.std.specs.Prelude.{Ok}
 use Rattle.symbology.specs.Ranges.{sum_from}
 use Rattle.symbology.specs.Parameters.{in_range}
 use Rattle.symbology.specs.Sides.{columns, rows}
@@ -26,14 +26,14 @@ use Rattle.laws.proofs.Spare.{enough_columns}
 -- parameters and list that pass the tests 1 to 3, one fact for each
 pub record LegalSymbol (p : Params) (l : List ℕ) : Type 0 where
   pub inside_range : in_range p ≡ true
-  pub sound : list_verdict p l ≡ Sound
+  pub sound : list_verdict p l ≡ Ok tt
   pub least : p.wr ≤ (sizes_for p l).capacity
   pub most : (sizes_for p l).capacity ≤ 4096
 
 -- The data modules hold the C bits of the capacity, for parameters and a list that pass the tests 1 and 2.
 pub data_bits : (p : Params) (l : List ℕ)
     → in_range p ≡ true
-    → list_verdict p l ≡ Sound
+    → list_verdict p l ≡ Ok tt
     → bits_per_module p.colours * sum_from 0 (columns p) (column_data p l (rows p)) ≡ (sizes_for p l).capacity
 unfolding as_bits capacity sizes_of
 data_bits p l range sound =

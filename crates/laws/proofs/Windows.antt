@@ -9,7 +9,7 @@ use lib.Dec.{leb}
 use lib.ListN.{length}
 use borrow.Author.Tests.{leb-true, le-leb, lt-leb}
 use Rattle.symbology.specs.declared.Near.{Near}
-use Rattle.symbology.specs.declared.Near.TheVariants.{Apart, Core}
+use Rattle.std.specs.Prelude.{Option, Some, None}
 use Rattle.symbology.specs.Ranges.{sum_from}
 use Rattle.symbology.specs.Patterns.{near_core}
 use Rattle.symbology.proofs.Ranges.{and_left, and_right}
@@ -19,11 +19,11 @@ use Rattle.laws.proofs.Sums.{sum_ext, sum_split, sum_zero, sum_from_lem}
 -- ---- windows
 
 -- what a coordinate counts for: nothing apart from all cores, else a number of its core and offset
-abbrev pub count_near : (ℕ → ℕ → ℕ) → Near → ℕ
-count_near g Apart = 0
-count_near g (Core i o) = g i o
+abbrev pub count_near : (ℕ → ℕ → ℕ) → Option Near → ℕ
+count_near g None = 0
+count_near g (Some near) = g near.core near.offset
 
-near_first : (k c x : ℕ) (cs : List ℕ) → c ≤ x + 2 → x ≤ c + 2 → near_core k (c ∷ cs) x ≡ Core k (x + 2 - c)
+near_first : (k c x : ℕ) (cs : List ℕ) → c ≤ x + 2 → x ≤ c + 2 → near_core k (c ∷ cs) x ≡ Some (record { core = k; offset = x + 2 - c })
 unfolding near_core
 near_first k c x cs p q = rw (le-leb c (x + 2) p, le-leb x (c + 2) q)
 
@@ -35,7 +35,8 @@ near_behind : (k c x : ℕ) (cs : List ℕ) → c + 2 < x → near_core k (c ∷
 unfolding near_core
 near_behind k c x cs p = go (leb c (x + 2)) (leb x (c + 2)) (lt-leb x (c + 2) p)
   where
-    go : (a b : Bool) → b ≡ false → cond (a && b) (Core k (x + 2 - c)) (near_core (suc k) cs x) ≡ near_core (suc k) cs x
+    go : (a b : Bool) → b ≡ false
+        → cond (a && b) (Some (record { core = k; offset = x + 2 - c })) (near_core (suc k) cs x) ≡ near_core (suc k) cs x
     go true b e = rw e refl
     go false b e = refl
 
@@ -50,7 +51,7 @@ spaced_end a e [] s = leb-true a e s
 spaced_end a e (c ∷ cs) s = omega (arith, spaced_head a e c cs s, spaced_end (c + 3) e cs (spaced_tail a e c cs s))
 
 -- before all windows lies no core
-apart_before : (k a e x : ℕ) (cs : List ℕ) → spaced a e cs ≡ true → x < a → near_core k cs x ≡ Apart
+apart_before : (k a e x : ℕ) (cs : List ℕ) → spaced a e cs ≡ true → x < a → near_core k cs x ≡ None
 unfolding near_core
 apart_before k a e x [] s h = refl
 apart_before k a e x (c ∷ cs) s h =

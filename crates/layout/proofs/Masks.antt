@@ -1,14 +1,13 @@
--- The mask generators' products, references past the last mask, and the bound of a mask's colour index.
+-- The mask generators' products, and the bound of a mask's colour index.
 -- Assumes nothing.
-use Prim.Native.Nat.{ℕ, ◌+◌, ◌*◌, ◌≤◌, ◌<◌}
+use Prim.Native.Nat.{ℕ, ◌*◌, ◌≤◌, ◌<◌}
 use mathlib.Core.Path.{◌≡◌}
 use mathlib.Core.Bool.{true}
 use native.Mathlib.Nat.{mul-le-mul}
 use native.Mathlib.Omega.{arith}
-use lib.ListN.{get_or, get_or-eq_default}
 use Rattle.symbology.specs.declared.Params.{Params}
 use Rattle.symbology.specs.Parameters.{in_range}
-use Rattle.symbology.specs.Placement.{mask_generators, mask_at}
+use Rattle.symbology.specs.Placement.{mask_at}
 use Rattle.laws.proofs.Parameters.{some_colours}
 use Rattle.laws.proofs.Masks.{mask_below}
 
@@ -22,16 +21,6 @@ pub three_factors : (a b c : ℕ) → a < 256 → b < 256 → c < 256 → a * b 
 three_factors a b c h k l =
     let most : a * b * c ≤ 65535 * 255 = mul-le-mul {n₂ = 65535} {m₂ = 255} (omega (arith, two_factors a b h k)) (omega arith) in
     omega arith
-
--- None of four numbers in a row, from the least possible one on. Taken twice it gives the eight references: all at once are too many
--- cases for the arithmetic.
-pub none_of_four : (m k : ℕ) → k ≤ m → (m ≡ k → ⊥) → (m ≡ k + 1 → ⊥) → (m ≡ k + 2 → ⊥) → (m ≡ k + 3 → ⊥) → k + 4 ≤ m
-none_of_four m k h a b c d = omega arith
-
--- past the last mask reference
-pub past_masks : (mask x y : ℕ) → 8 ≤ mask → get_or (mask_generators x y) mask 0 ≡ 0
-unfolding mask_generators
-past_masks mask x y h = get_or-eq_default (mask_generators x y) 0 h
 
 -- a mask's colour index is a byte
 pub mask_byte : (p : Params) (c r : ℕ) → in_range p ≡ true → mask_at p.mask p.colours c r < 256

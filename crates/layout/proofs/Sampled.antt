@@ -10,7 +10,7 @@ use native.Mathlib.Omega.{arith}
 use lib.ListN.{length, take, drop, length-append}
 use lib.Seq.{length-take-le, take_at, take-length, sets, length-sets, sets-eq}
 use Rattle.symbology.specs.declared.Params.{Params}
-use Rattle.symbology.specs.declared.ListVerdict.TheVariants.{Sound}
+use Rattle.std.specs.Prelude.{Ok}
 use Rattle.symbology.specs.Parameters.{in_range}
 use Rattle.symbology.specs.Sides.{columns, rows}
 use Rattle.symbology.specs.Reserved.{list_verdict}
@@ -39,7 +39,7 @@ module _ {p : Params} {l matrix out : List ℕ} where
   pub sampled_next : {c r : ℕ}
       → SampledTo p l matrix out c r
       → in_range p ≡ true
-      → list_verdict p l ≡ Sound
+      → list_verdict p l ≡ Ok tt
       → c < columns p
       → r < rows p
       → (k : ℕ)
@@ -68,7 +68,7 @@ module _ {p : Params} {l matrix out : List ℕ} where
   sampled_column {c} s = record { whole = s.whole; first = rw (add-one c, ← (taken_column p l matrix c)) s.first }
 
   -- all columns are sampled
-  pub sampled_all : SampledTo p l matrix out (columns p) 0 → in_range p ≡ true → list_verdict p l ≡ Sound → out ≡ sampled p l matrix
+  pub sampled_all : SampledTo p l matrix out (columns p) 0 → in_range p ≡ true → list_verdict p l ≡ Ok tt → out ≡ sampled p l matrix
   sampled_all s range sound =
       let long : length (sampled p l matrix) ≡ length out = length_sampled p l matrix ∙ data_bits p l range sound ∙ sym s.whole in
       sym (take-length out) ∙ rw (← long, ← (taken_last p l matrix)) s.first

@@ -1,30 +1,25 @@
 -- The walk through the modules, column by column from the left, each downwards: what it asks for, and how far it has come. Columns
 -- and rows count from 0.
 -- Assumes nothing.
-use Rattle.std.specs.Prelude.{ℕ, ◌*◌, ◌/◌, ◌%◌, ◌≤◌, ◌<◌, ◌≡◌, true, List, ◌⊎◌, length, get_or, take}
+use Rattle.std.specs.Prelude.{ℕ, ◌*◌, ◌/◌, ◌%◌, ◌≤◌, ◌<◌, ◌≡◌, true, List, ◌⊎◌, length, get_or, take, Ok}
 use Rattle.symbology.specs.declared.Params.{Params}
-use Rattle.symbology.specs.declared.ListVerdict.TheVariants.{Sound}
 use Rattle.symbology.specs.Parameters.{in_range}
 use Rattle.symbology.specs.Sides.{columns, rows}
 use Rattle.symbology.specs.Reserved.{list_verdict}
 use Rattle.symbology.specs.Placement.{rank, module_at}
 use Rattle.symbology.specs.Capacity.{sizes_for}
 use Rattle.laws.specs.Sampling.{taken}
-use Rattle.patterns.specs.declared.SideCores.{SideCores}
-use Rattle.patterns.specs.Cores.{cores_for}
 
 -- parameters and list pass the tests 1 and 2, there are C bits, and the matrix has so many modules
 pub record SizedSymbol (p : Params) (l : List ℕ) (bits modules : ℕ) : Type 0 where
   pub inside_range : in_range p ≡ true
-  pub sound : list_verdict p l ≡ Sound
+  pub sound : list_verdict p l ≡ Ok tt
   pub all_bits : bits ≡ (sizes_for p l).capacity
   pub all_modules : modules ≡ rows p * columns p
 
--- The walk stands at the module (c, r) of a symbol, or below the last of column c, with k data modules before it. The rows of
--- Table 2 are kept.
-pub record AtModule (p : Params) (l : List ℕ) (cores : SideCores) (bits modules c r k : ℕ) : Type 0 where
+-- The walk stands at the module (c, r) of a symbol, or below the last of column c, with k data modules before it.
+pub record AtModule (p : Params) (l : List ℕ) (bits modules c r k : ℕ) : Type 0 where
   pub symbol : SizedSymbol p l bits modules
-  pub kept : cores ≡ cores_for p
   pub column : c < columns p
   pub row : r ≤ rows p
   pub ranked : k ≡ rank p l c r

@@ -9,103 +9,155 @@
 // modules and no list more than 1,024 entries.
 #![tactic(auto)]
 
-ghost use Rattle.std.specs.Prelude.{◌+◌, ◌*◌, ◌≤◌, ◌<◌, ◌≡◌, true, length, get_or, take, drop, set};
+ghost use Rattle.std.specs.Prelude.{◌+◌, ◌*◌, ◌≤◌, ◌<◌, ◌≡◌, true, length, get_or, take, drop, set, Ok};
 ghost use Rattle.std.proofs.lemmas.List.Edits.{sets};
-ghost use Rattle.symbology.specs.declared.ListVerdict.TheVariants.{Sound};
 ghost use Rattle.symbology.specs.Bits.{value, bits};
 ghost use Rattle.symbology.specs.Parameters.{in_range};
+ghost use Rattle.symbology.specs.Ranges.{found};
 ghost use Rattle.symbology.specs.Sides.{columns, rows};
 ghost use Rattle.symbology.specs.Capacity.{bits_per_module};
 ghost use Rattle.symbology.specs.Reserved.{list_verdict};
-ghost use Rattle.symbology.specs.Placement.{pattern_cell, cell_at, rank, mask_generators, mask_at, module_at, filled, bits_at, sampled, first_bad_module};
-ghost use Rattle.patterns.specs.Cores.{cores_for};
+ghost use Rattle.symbology.specs.Placement.{colour_index, cell_at, rank, mask_generators, mask_at, module_at, filled, bits_at, sampled, first_bad_module};
 ghost use Rattle.layout.specs.Walk.{SizedSymbol, AtModule, FilledTo, SampledTo};
 
-use patterns::SideCores;
-use symbology::{Cell, Modules, Params, PatternColour};
+use patterns::Patterns;
+use reserved::Entry;
+use symbology::{Modules, Params, PatternColour};
 
-// A parameter as an index; the cast of a function's own parameter asks for no proof of its range.
-fn wide(n: u32) -> usize
-    ensures { result ≡ n }
-{
-    n as usize
+// A symbol that is filled or sampled: its patterns, with the parameters, and its reserved list, which
+// have passed the tests 1 and 2.
+#[derive(Clone, Copy)]
+struct Symbol<'a> {
+    patterns: Patterns,
+    list: &'a [u16],
+    ghost inside_range: { in_range patterns.params ≡ true },
+    ghost sound: { list_verdict patterns.params list.now ≡ Ok tt },
 }
 
-fn narrow(n: usize) -> u8
-    requires { n < 256 }
-    ensures { result ≡ n }
-{
-    n as u8
-}
+// Columns c and rows r count from 0. They are two numbers, as in the definitions: a type for a module's place
+// would be taken apart again in each function.
+impl<'a> Symbol<'a> {
+    fn of(p: Params, list: &'a [u16]) -> Symbol<'a>
+        requires { (in_range p ≡ true) × (list_verdict p list.now ≡ Ok tt) }
+        ensures { (result.patterns.params ≡ p) × (result.list.now ≡ list.now) }
+    {
+        Symbol {
+            patterns: Patterns::of(p),
+            list,
+        }
+    }
 
-fn columns_of(p: Params) -> usize
-    requires { in_range p ≡ true }
-    ensures { (result ≡ columns p) × (result ≤ 145) }
-{
-    tables::side_size(p.horizontal)
-}
+    // Columns and rows are a function each: one for both sides would have to be told which.
+    fn columns(&self) -> usize
+        ensures { (result ≡ columns self.now.patterns.params) × (result ≤ 145) }
+    {
+        tables::side_size(self.patterns.params.horizontal)
+    }
 
-fn rows_of(p: Params) -> usize
-    requires { in_range p ≡ true }
-    ensures { (result ≡ rows p) × (result ≤ 145) }
-{
-    tables::side_size(p.vertical)
-}
+    fn rows(&self) -> usize
+        ensures { (result ≡ rows self.now.patterns.params) × (result ≤ 145) }
+    {
+        tables::side_size(self.patterns.params.vertical)
+    }
 
-// The index of the module (c, r) in a matrix.
-fn index_of(p: Params, c: usize, r: usize) -> usize
-    requires { (in_range p ≡ true) × (c < columns p) × (r < rows p) }
-    ensures { (result ≡ r * columns p + c) × (result < rows p * columns p) }
-{
-    r * columns_of(p) + c
-}
+    // The index of the module (c, r) in a matrix.
+    fn index_of(&self, c: usize, r: usize) -> usize
+        requires { (c < columns self.now.patterns.params) × (r < rows self.now.patterns.params) }
+        ensures index { result ≡ r * columns self.now.patterns.params + c }
+        ensures inside { result < rows self.now.patterns.params * columns self.now.patterns.params }
+    {
+        r * self.columns() + c
+    }
 
-fn depth_of(p: Params) -> usize
-    requires { in_range p ≡ true }
-    ensures { (result ≡ bits_per_module p.colours) × (result ≤ 3) }
-{
-    wide(capacity::bits_per_module(p.colours))
-}
+    fn depth(&self) -> usize
+        ensures { (result ≡ bits_per_module self.now.patterns.params.colours) × (result ≤ 3) }
+    {
+        capacity::bits_per_module(self.patterns.params.colours) as usize
+    }
 
-// The bits of the k data modules before a module: the place of its own among them.
-fn bits_before(p: Params, k: usize) -> usize
-    requires { (in_range p ≡ true) × (k ≤ 21025) }
-    ensures { result ≡ bits_per_module p.colours * k }
-{
-    let before = Modules(k as u32);
-    let depth = capacity::bits_per_module(p.colours);
-    wide(capacity::as_bits(before, depth).0)
-}
+    // The bits of the k data modules before a module: the place of its own among them.
+    fn bits_before(&self, k: usize) -> usize
+        requires { k ≤ 21025 }
+        ensures { result ≡ bits_per_module self.now.patterns.params.colours * k }
+    {
+        let before = Modules(k as u32);
+        let depth = capacity::bits_per_module(self.patterns.params.colours);
+        capacity::as_bits(before, depth).0 as usize
+    }
 
-// ---- what each module holds. Columns c and rows r count from 0.
+    // ---- what a module holds: the colour index that pattern or list fix, none in a data module
 
-fn pattern_cell(p: Params, colour: PatternColour) -> Cell
-    requires { in_range p ≡ true }
-    ensures { result ≡ pattern_cell p colour }
-{
-    match colour {
-        PatternColour::Outside => Cell::Data,
-        PatternColour::Black => Cell::Fixed(p.black as u8),
-        PatternColour::Cyan => Cell::Fixed(p.cyan as u8),
-        PatternColour::Yellow => Cell::Fixed(p.yellow as u8),
+    fn colour_index(&self, colour: PatternColour) -> u8
+        ensures { result ≡ colour_index self.now.patterns.params colour }
+    {
+        match colour {
+            PatternColour::Black => self.patterns.params.black as u8,
+            PatternColour::Cyan => self.patterns.params.cyan as u8,
+            PatternColour::Yellow => self.patterns.params.yellow as u8,
+        }
+    }
+
+    fn cell_at(&self, c: usize, r: usize) -> Option<u8>
+        requires { (c < 256) × (r < 256) }
+        ensures { result ≡ cell_at self.now.patterns.params self.now.list.now c r }
+    {
+        if let Some(k) = reserved::first_entry(self.list, self.list.len() / 3, c + 1, r + 1) {
+            return Some(Entry::at(self.list, k).colour as u8);
+        }
+        let colour = self.patterns.colour_at(c + 1, r + 1)?;
+        Some(self.colour_index(colour))
+    }
+
+    fn mask_at(&self, c: usize, r: usize) -> u8
+        requires { (c < 256) × (r < 256) }
+        ensures { result ≡ mask_at self.now.patterns.params.mask self.now.patterns.params.colours c r }
+    {
+        let colours = self.patterns.params.colours as usize;
+        (mask_generator(self.patterns.params.mask, c, r) % colours) as u8
+    }
+
+    // ---- filling
+
+    // Stores the module (c, r), before which k data modules stand, and answers how many stand before the
+    // module below it.
+    fn fill_module(&self, bits: &[u8], matrix: &mut [u8], c: usize, r: usize, k: usize) -> usize
+        requires at { AtModule self.now.patterns.params self.now.list.now (length bits.now) (length matrix.old) c r k }
+        requires inside { r < rows self.now.patterns.params }
+        ensures next { result ≡ rank self.now.patterns.params self.now.list.now c (r + 1) }
+        ensures stored { matrix.new ≡ set matrix.old (r * columns self.now.patterns.params + c) (module_at self.now.patterns.params self.now.list.now bits.now c r) }
+    {
+        let at = self.index_of(c, r);
+        let mask = self.mask_at(c, r);
+        if let Some(colour) = self.cell_at(c, r) {
+            matrix[at] = colour;
+            return k;
+        }
+        matrix[at] = unmasked_in(bits, self.bits_before(k), self.depth()) ^ mask;
+        k + 1
+    }
+
+    // ---- sampling
+
+    // Stores the bits of the module (c, r), before which k data modules stand, and answers how many stand
+    // before the module below it.
+    fn sample_module(&self, matrix: &[u8], out: &mut [u8], c: usize, r: usize, k: usize) -> usize
+        requires at { AtModule self.now.patterns.params self.now.list.now (length out.old) (length matrix.now) c r k }
+        requires inside { r < rows self.now.patterns.params }
+        ensures next { result ≡ rank self.now.patterns.params self.now.list.now c (r + 1) }
+        ensures stored { out.new ≡ sets out.old (bits_per_module self.now.patterns.params.colours * k) (bits_at self.now.patterns.params self.now.list.now matrix.now c r) }
+    {
+        let at = self.index_of(c, r);
+        if self.cell_at(c, r).is_some() {
+            return k;
+        }
+        let index = matrix[at] ^ self.mask_at(c, r);
+        bitfield::put_bits(out, self.bits_before(k), self.depth(), usize::from(index));
+        k + 1
     }
 }
 
-fn cell_at(p: Params, list: &[u16], cores: SideCores, c: usize, r: usize) -> Cell
-    requires { (in_range p ≡ true) × (list_verdict p list.now ≡ Sound) × (cores ≡ cores_for p) × (c < 256) × (r < 256) }
-    ensures { result ≡ cell_at p list.now c r }
-{
-    let n = list.len() / 3;
-    let k = reserved::first_entry(list, n, c + 1, r + 1);
-    if k < n {
-        return Cell::Fixed(narrow(reserved::colour_of(list, k)));
-    }
-    pattern_cell(p, patterns::pattern_colour(p, cores, c + 1, r + 1))
-}
-
-// ---- masks
-
-// Table 20, before the remainder by the number of colours.
+// Table 20, before the remainder by the number of colours. A row is a line; a table of closures would hide them.
+#[tactic(auto, unfolding(symbology::specs::Placement::mask_generators))]
 fn mask_generator(mask: u32, x: usize, y: usize) -> usize
     requires { (x < 256) × (y < 256) }
     ensures { result ≡ get_or (mask_generators x y) mask 0 }
@@ -123,17 +175,7 @@ fn mask_generator(mask: u32, x: usize, y: usize) -> usize
     }
 }
 
-fn mask_at(p: Params, c: usize, r: usize) -> u8
-    requires { (in_range p ≡ true) × (c < 256) × (r < 256) }
-    ensures { result ≡ mask_at p.mask p.colours c r }
-{
-    let n = wide(p.colours);
-    (mask_generator(p.mask, c, r) % n) as u8
-}
-
-// ---- the bits of a module, one to a byte, the first bit the highest
-
-// The number that n bits write: a colour index before its mask.
+// The number that n bits write, one to a byte, the first the highest: a colour index before its mask.
 fn unmasked_in(bits: &[u8], at: usize, n: usize) -> u8
     requires { (at + n ≤ length bits.now) × (n ≤ 8) }
     ensures { result ≡ value (take n (drop at bits.now)) }
@@ -141,130 +183,19 @@ fn unmasked_in(bits: &[u8], at: usize, n: usize) -> u8
     bitfield::bits_value(bits, at, n) as u8
 }
 
-// Stores the n lowest bits of a colour index whose mask is undone.
-fn put_unmasked(out: &mut [u8], at: usize, n: usize, index: u8)
-    requires { at + n ≤ length out.old }
-    ensures { out.new ≡ sets out.old at (bits n index) }
-{
-    bitfield::put_bits(out, at, n, index as usize);
-}
-
-// ---- filling
-
-// Stores the module (c, r), before which k data modules stand, and answers how many stand before the
-// module below it.
-fn fill_module(
-    p: Params,
-    list: &[u16],
-    cores: SideCores,
-    bits: &[u8],
-    matrix: &mut [u8],
-    c: usize,
-    r: usize,
-    k: usize,
-) -> usize
-    requires { AtModule p list.now cores (length bits.now) (length matrix.old) c r k × (r < rows p) }
-    ensures { (result ≡ rank p list.now c (r + 1)) × (matrix.new ≡ set matrix.old (r * columns p + c) (module_at p list.now bits.now c r)) }
-{
-    let at = index_of(p, c, r);
-    let mask = mask_at(p, c, r);
-    let cell = cell_at(p, list, cores, c, r);
-    if let Cell::Fixed(colour) = cell {
-        matrix[at] = colour;
-        return k;
-    }
-    let depth = depth_of(p);
-    matrix[at] = unmasked_in(bits, bits_before(p, k), depth) ^ mask;
-    k + 1
-}
-
-// Stores column c, before which k data modules stand, and answers how many stand before the next.
-fn fill_column(
-    p: Params,
-    list: &[u16],
-    cores: SideCores,
-    bits: &[u8],
-    matrix: &mut [u8],
-    c: usize,
-    k: usize,
-) -> usize
-    requires { AtModule p list.now cores (length bits.now) (length matrix.old) c 0 k × FilledTo p list.now bits.now matrix.old c 0 }
-    ensures { (result ≡ rank p list.now (c + 1) 0) × FilledTo p list.now bits.now matrix.new (c + 1) 0 }
-{
-    let height = rows_of(p);
-    let mut next = k;
-    let mut r = 0;
-    while r < height {
-        next = fill_module(p, list, cores, bits, matrix, c, r, next);
-        r += 1;
-    }
-    next
-}
-
-// Fills the whole matrix: patterns, list entries, and the C bits in the data modules, masked.
+// Fills the whole matrix: patterns, list entries, and the C bits in the data modules, masked. The walk is
+// the two `for` lines, here and in `sample`: passing a step to one walk would take more lines than it saves.
 pub fn fill(p: Params, list: &[u16], bits: &[u8], matrix: &mut [u8])
     requires { SizedSymbol p list.now (length bits.now) (length matrix.old) }
     ensures { matrix.new ≡ filled p list.now bits.now }
 {
-    let cores = patterns::side_cores(p);
-    let width = columns_of(p);
+    let symbol = Symbol::of(p, list);
     let mut k = 0;
-    let mut c = 0;
-    while c < width {
-        k = fill_column(p, list, cores, bits, matrix, c, k);
-        c += 1;
+    for c in 0..symbol.columns() {
+        for r in 0..symbol.rows() {
+            k = symbol.fill_module(bits, matrix, c, r, k);
+        }
     }
-}
-
-// ---- sampling
-
-// Stores the bits of the module (c, r), before which k data modules stand, and answers how many stand
-// before the module below it.
-fn sample_module(
-    p: Params,
-    list: &[u16],
-    cores: SideCores,
-    matrix: &[u8],
-    out: &mut [u8],
-    c: usize,
-    r: usize,
-    k: usize,
-) -> usize
-    requires { AtModule p list.now cores (length out.old) (length matrix.now) c r k × (r < rows p) }
-    ensures { (result ≡ rank p list.now c (r + 1)) × (out.new ≡ sets out.old (bits_per_module p.colours * k) (bits_at p list.now matrix.now c r)) }
-{
-    let at = index_of(p, c, r);
-    let cell = cell_at(p, list, cores, c, r);
-    if let Cell::Fixed(_) = cell {
-        return k;
-    }
-    let depth = depth_of(p);
-    put_unmasked(out, bits_before(p, k), depth, matrix[at] ^ mask_at(p, c, r));
-    k + 1
-}
-
-// Stores the bits of column c, before which k data modules stand, and answers how many stand before
-// the next.
-fn sample_column(
-    p: Params,
-    list: &[u16],
-    cores: SideCores,
-    matrix: &[u8],
-    out: &mut [u8],
-    c: usize,
-    k: usize,
-) -> usize
-    requires { AtModule p list.now cores (length out.old) (length matrix.now) c 0 k × SampledTo p list.now matrix.now out.old c 0 }
-    ensures { (result ≡ rank p list.now (c + 1) 0) × SampledTo p list.now matrix.now out.new (c + 1) 0 }
-{
-    let height = rows_of(p);
-    let mut next = k;
-    let mut r = 0;
-    while r < height {
-        next = sample_module(p, list, cores, matrix, out, c, r, next);
-        r += 1;
-    }
-    next
 }
 
 // Samples the C bits of a matrix, one to a byte, the mask undone. Whatever the modules hold is taken;
@@ -273,27 +204,20 @@ pub fn sample(p: Params, list: &[u16], matrix: &[u8], out: &mut [u8])
     requires { SizedSymbol p list.now (length out.old) (length matrix.now) }
     ensures { out.new ≡ sampled p list.now matrix.now }
 {
-    let cores = patterns::side_cores(p);
-    let width = columns_of(p);
+    let symbol = Symbol::of(p, list);
     let mut k = 0;
-    let mut c = 0;
-    while c < width {
-        k = sample_column(p, list, cores, matrix, out, c, k);
-        c += 1;
+    for c in 0..symbol.columns() {
+        for r in 0..symbol.rows() {
+            k = symbol.sample_module(matrix, out, c, r, k);
+        }
     }
 }
 
-// Test 7: the first module that is no colour index, and the matrix's length where there is none.
-pub fn first_bad_module(colours: u32, matrix: &[u8]) -> usize
-    ensures { result ≡ first_bad_module colours matrix.now }
+// Test 7: the first module that is no colour index.
+pub fn first_bad_module(colours: u32, matrix: &[u8]) -> Option<usize>
+    ensures { result ≡ found (length matrix.now) (first_bad_module colours matrix.now) }
 {
-    let n = wide(colours);
-    let mut i = 0;
-    while i < matrix.len() {
-        if n <= matrix[i] as usize {
-            return i;
-        }
-        i += 1;
-    }
-    i
+    matrix
+        .iter()
+        .position(|module| colours <= u32::from(*module))
 }

@@ -1,6 +1,7 @@
 // The code of a symbol: the check matrix A for its sizes, and the stages of error correction that begin with
 // it, the codeword of net bits and the mending of a received word. All of it lies in the work buffer. The
-// message bits of a mended word are read by `coding::take_message`.
+// message bits of a mended word are read by `coding::take_message`. Sizes and areas are no struct: what is asked
+// of the two, `RoomFor`, bounds the lent buffer too.
 #![tactic(auto)]
 
 ghost use Rattle.std.specs.Prelude.{length};

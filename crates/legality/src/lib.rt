@@ -5,65 +5,48 @@
 
 ghost use Rattle.std.specs.Prelude.{◌≡◌};
 ghost use Rattle.symbology.specs.Capacity.{sizes_for};
+ghost use Rattle.calls.specs.Refusals.{told};
 ghost use Rattle.calls.specs.Tests.{size_rows, front_rows};
 ghost use Rattle.calls.specs.Sizes.{sizes_answer};
 ghost use Rattle.legality.specs.Verdict.{verdict_of};
 
-use calls::{Answer, SizesAnswer};
-use symbology::{ListVerdict, Params, Sizes};
+use calls::{Refusal, SizesAnswer};
+use symbology::{Params, Sizes};
 
-// What tests say of a symbol: they are passed, and it has these sizes; or a refusal.
-#[derive(Clone, Copy)]
-pub enum Verdict {
-    Legal(Sizes),
-    Refused(Answer),
-}
-
-// 1 to 3, which need no buffer.
-pub fn size_tests(p: Params, list: &[u16]) -> Verdict
-    ensures { result ≡ verdict_of (size_rows p list.now) (sizes_for p list.now) }
+// 1 to 3, which need no buffer: the sizes of the symbol, or a refusal.
+pub fn size_tests(p: Params, list: &[u16]) -> Result<Sizes, Refusal>
+    ensures { told result ≡ verdict_of (size_rows p list.now) (sizes_for p list.now) }
 {
     if !capacity::in_range(p) {
-        return Verdict::Refused(calls::answered(1, 0));
+        return Err(Refusal::OutOfRange);
     }
-    let verdict = reserved::judge_list(p, list);
-    if let ListVerdict::Fault(place) = verdict {
-        return Verdict::Refused(calls::answered(2, place));
+    if let Err(place) = reserved::judge_list(p, list) {
+        return Err(Refusal::BadList(place));
     }
     let s = capacity::sizes_of(p, list.len() / 3);
-    if s.capacity < s.wr {
-        return Verdict::Refused(calls::answered(3, 0));
+    if s.capacity < s.wr || 4096 < s.capacity {
+        return Err(Refusal::BadCapacity);
     }
-    if 4096 < s.capacity {
-        return Verdict::Refused(calls::answered(3, 0));
-    }
-    Verdict::Legal(s)
+    Ok(s)
 }
 
 // 1 to 5, for a matrix and a work buffer of these lengths.
-pub fn front_tests(p: Params, list: &[u16], modules: usize, work: usize) -> Verdict
-    ensures { result ≡ verdict_of (front_rows p list.now modules work) (sizes_for p list.now) }
+pub fn front_tests(p: Params, list: &[u16], modules: usize, work: usize) -> Result<Sizes, Refusal>
+    ensures { told result ≡ verdict_of (front_rows p list.now modules work) (sizes_for p list.now) }
 {
-    let first = size_tests(p, list);
-    let Verdict::Legal(s) = first else {
-        return first;
-    };
+    let s = size_tests(p, list)?;
     if modules != s.columns * s.rows {
-        return Verdict::Refused(calls::answered(4, 0));
+        return Err(Refusal::OtherMatrix);
     }
     if work < s.work {
-        return Verdict::Refused(calls::answered(5, 0));
+        return Err(Refusal::ShortWork);
     }
-    first
+    Ok(s)
 }
 
 // What a caller needs to know before a write or a read, or the refusal 1, 2 or 3 with zeros.
 pub fn sizes(p: Params, list: &[u16]) -> SizesAnswer
     ensures { result ≡ sizes_answer p list.now }
 {
-    let first = size_tests(p, list);
-    match first {
-        Verdict::Legal(s) => calls::the_sizes(s),
-        Verdict::Refused(a) => calls::no_sizes(a.number, a.place),
-    }
+    SizesAnswer::from(size_tests(p, list))
 }

@@ -1,32 +1,13 @@
--- Places of a buffer that are cleared, one after the other.
+-- A buffer whose places from one on are cleared.
 -- Assumes nothing.
 use Prim.Native.Nat.{ℕ, ◌+◌, ◌-◌, ◌≤◌, ◌<◌}
-use mathlib.Core.Path.{◌≡◌, refl, sym, ap, ◌∙◌}
-use mathlib.Core.List.{List, [], ◌∷◌, ◌++◌}
+use mathlib.Core.Path.{◌≡◌, sym, ap, ◌∙◌}
+use mathlib.Core.List.{List, ◌++◌}
 use native.Mathlib.Decide.{dec_lt}
 use native.Mathlib.Omega.{arith}
-use lib.ListN.{length, take, set, replicate, length-append, length-replicate, get_or-append, get_or-replicate}
+use lib.ListN.{length, take, replicate, length-append, length-replicate, get_or-append, get_or-replicate}
 use lib.Seq.{length-take-le, get_or-take, get_or-append-add, ext_get_or}
-use Rattle.laws.proofs.Stores.{store_each}
-use Rattle.lent.specs.Changes.{span}
 use Rattle.lent.specs.Buffer.{Cleared}
-use Rattle.lent.proofs.Changes.{changed_none, changed_wider, changed_set, outside_in}
-
--- the places up to i are cleared
-pub cleared_start : (from : ℕ) (xs : List ℕ) → Cleared from from xs xs
-cleared_start from xs = record { changed = changed_none (span from from ∷ []) xs; zero_in = λ i h g. absurd (omega arith) }
-
-pub cleared_next : {from i : ℕ} {before after : List ℕ} → Cleared from i before after → from ≤ i → i < length before
-    → Cleared from (i + 1) before (set after i 0)
-cleared_next {from} {i} {before} {after} c h g =
-    record {
-      changed =
-          changed_set (changed_wider c.changed (λ p o. (outside_in from i (omega arith) (omega arith) o.0, tt))) i 0
-          (λ o. omega (arith, o.0 h));
-      zero_in =
-          store_each (λ p v. from ≤ p → p < i + 1 → v ≡ 0) after i 0 (omega (arith, c.changed.long))
-          (λ p e l m. c.zero_in p l (omega arith)) (λ l m. refl);
-    }
 
 -- a buffer whose places from `from` on are cleared
 pub cleared_rest : (from : ℕ) (xs ys : List ℕ) → from ≤ length xs → Cleared from (length xs) xs ys

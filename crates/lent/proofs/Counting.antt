@@ -11,31 +11,25 @@ use Rattle.laws.proofs.Ranges.{length_tabulate, get_d_tabulate}
 use Rattle.lent.specs.Changes.{span, Changed}
 use Rattle.lent.specs.Buffer.{number_at, numbers_at, stored_number, CountedUp}
 use Rattle.lent.proofs.Buffer.{length_numbers, numbers_at_lem}
-use Rattle.lent.proofs.Changes.{changed_none, changed_stored, number_next}
+use Rattle.lent.proofs.Changes.{changed_stored, number_next}
 
 -- the first j of the n numbers from `at` on are stored
 pub record CountingUp (at n j : ℕ) (before after : List ℕ) : Type 0 where
-  pub inside : j ≤ n
   pub changed : Changed (span at (at + 2 * n) ∷ []) before after
   pub counted : (k : ℕ) → k < j → number_at after (at + 2 * k) ≡ k
-
-pub counting_start : (at n : ℕ) (xs : List ℕ) → CountingUp at n 0 xs xs
-counting_start at n xs =
-    record { inside = omega arith; changed = changed_none (span at (at + 2 * n) ∷ []) xs; counted = λ k l. absurd (omega arith) }
 
 module _ {at n j : ℕ} {before after : List ℕ} (r : CountingUp at n j before after) where
   pub counting_next : {later : List ℕ} → at + 2 * n ≤ length before → j < n → later ≡ stored_number after (at + 2 * j) j
       → CountingUp at n (j + 1) before later
   counting_next room h e =
       rw e record {
-        inside = omega arith;
         changed =
             changed_stored r.changed (at + 2 * j) j (λ o. omega (arith, o.0 (omega arith))) (λ o. omega (arith, o.0 (omega arith)));
         counted = number_next (λ k v. v ≡ k) after at j j (omega (arith, r.changed.long)) r.counted refl;
       }
 
-  pub counting_done : n ≤ j → CountedUp at n before after
-  counting_done h =
+  pub counting_done : j ≡ n → CountedUp at n before after
+  counting_done e =
       record {
         changed = r.changed;
         counted =

@@ -17,6 +17,9 @@ use symbology::Sizes;
 // each, from `marks` on; then the word, `gross` bits of a byte each, from `word` on; then `gross`
 // numbers of two bytes each, from `numbers` on; `net` message bits of a byte each, from `message` on; and
 // the places of the repairs, at most `checks` numbers of two bytes each, from `repaired` on.
+//
+// They go beside the buffer and not in one struct with it: one that holds a lent buffer has to say in each
+// clause that it holds the same one still.
 #[derive(Clone, Copy)]
 pub struct Areas {
     pub checks: usize,
@@ -36,7 +39,7 @@ pub fn areas_for(s: Sizes) -> Areas
     requires { CodeSizes s }
     ensures { result ≡ areas_of s }
 {
-    let stride = (s.gross + 7) / 8;
+    let stride = s.gross.div_ceil(8);
     let marks = s.checks * stride + stride;
     let word = marks + s.checks;
     let numbers = word + s.capacity;
@@ -45,11 +48,11 @@ pub fn areas_for(s: Sizes) -> Areas
         checks: s.checks,
         gross: s.gross,
         net: s.net,
-        stride: stride,
-        marks: marks,
-        word: word,
-        numbers: numbers,
-        message: message,
+        stride,
+        marks,
+        word,
+        numbers,
+        message,
         repaired: message + s.net,
     }
 }
@@ -59,7 +62,7 @@ pub fn number_at(xs: &[u8], at: usize) -> usize
     requires { at + 2 ≤ length xs.now }
     ensures { (result ≡ number_at xs.now at) × (result < 65536) }
 {
-    xs[at] as usize + 256 * (xs[at + 1] as usize)
+    usize::from(u16::from_le_bytes([xs[at], xs[at + 1]]))
 }
 
 // Stores a number in the two bytes at a place.
@@ -67,8 +70,9 @@ pub fn put_number(xs: &mut [u8], at: usize, v: usize)
     requires { (at + 2 ≤ length xs.old) × (v < 65536) }
     ensures { xs.new ≡ stored_number xs.old at v }
 {
-    xs[at] = (v % 256) as u8;
-    xs[at + 1] = (v / 256) as u8;
+    let [lower, upper] = (v as u16).to_le_bytes();
+    xs[at] = lower;
+    xs[at + 1] = upper;
 }
 
 // Stores 0 in the places from `from` up to `to`.
@@ -76,11 +80,7 @@ pub fn clear(xs: &mut [u8], from: usize, to: usize)
     requires { (from ≤ to) × (to ≤ length xs.old) }
     ensures { Cleared from to xs.old xs.new }
 {
-    let mut i = from;
-    while i < to {
-        xs[i] = 0;
-        i += 1;
-    }
+    xs[from..to].fill(0);
 }
 
 // Stores the numbers 0, 1, .., n - 1 from `at` on.
@@ -88,10 +88,8 @@ pub fn count_up(xs: &mut [u8], at: usize, n: usize)
     requires { (n ≤ 4096) × (at + 2 * n ≤ length xs.old) }
     ensures { CountedUp at n xs.old xs.new }
 {
-    let mut j = 0;
-    while j < n {
+    for j in 0..n {
         put_number(xs, at + 2 * j, j);
-        j += 1;
     }
 }
 
@@ -100,9 +98,7 @@ pub fn copy_numbers(xs: &[u8], at: usize, n: usize, out: &mut [u16])
     requires { (at + 2 * n ≤ length xs.now) × (n ≤ length out.old) }
     ensures { out.new ≡ sets out.old 0 (numbers_at xs.now at n) }
 {
-    let mut i = 0;
-    while i < n {
+    for i in 0..n {
         out[i] = number_at(xs, at + 2 * i) as u16;
-        i += 1;
     }
 }

@@ -1,5 +1,4 @@
-pub mod Text
-pub mod Decimal
 pub mod Scanning
-pub mod Lengths
 pub mod Listing
+pub mod Decimal
+pub mod Text

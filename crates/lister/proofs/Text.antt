@@ -1,39 +1,39 @@
--- Text stored piece after piece.
+-- Texts stored and put behind one another.
 -- Assumes nothing.
-use Prim.Native.Nat.{ℕ, suc, ◌+◌, ◌≤◌, ◌<◌}
-use mathlib.Core.Path.{◌≡◌, subst}
-use mathlib.Core.List.{List, [], ◌∷◌, ◌++◌}
-use native.Mathlib.Omega.{arith}
+use Prim.Native.Nat.{ℕ, ◌+◌, ◌-◌, ◌≤◌, ◌<◌}
+use mathlib.Core.Path.{◌≡◌}
+use mathlib.Core.List.{List, [], ◌∷◌, ◌++◌, append_assoc}
 use native.Mathlib.Numerals.{add-one}
-use lib.ListN.{length, get_or, drop}
+use native.Mathlib.Omega.{arith}
+use lib.ListN.{length, get_or, take, drop, set}
 use lib.Seq.{sets, drop-cons}
-use Rattle.pieces.specs.Pieces.{StoredAt}
-use Rattle.pieces.proofs.Pieces.{Left, left_next, joined}
+use Rattle.std.proofs.lemmas.List.{take_all}
 use Rattle.lister.specs.Decimal.{decimal}
-use Rattle.lister.specs.Listing.{cores_after}
+use Rattle.lister.specs.Listing.{cores_after, cores_line}
 
--- a turn of a loop that copies a text from its start
-pub text_next : (text : List ℕ) {out₀ out out' : List ℕ} {at next : ℕ}
-    → at < length text → Left text (drop at text) 0 out₀ at out → StoredAt (get_or text at 0 ∷ []) at out out' next
-    → (next ≤ length text) × Left text (drop next text) 0 out₀ next out'
-text_next text {out₀} {out} {out'} {at} {next} h t p =
-    let e : suc at ≡ next = omega (arith, p.place) in
-    (omega (arith, p.place), subst (λ (k : ℕ). Left text (drop k text) 0 out₀ next out') e (left_next (drop-cons text at 0 h) t p))
+-- the next byte of a text is stored, and the others are left
+pub stored_next : (text out : List ℕ) (at : ℕ) → at < length text
+    → sets (set out at (get_or text at 0)) (at + 1) (drop (at + 1) text) ≡ sets out at (drop at text)
+stored_next text out at h = rw (add-one at, drop-cons text at 0 h)
 
--- a turn of the loop over core coordinates
-pub cores_next : (cs : List ℕ) {whole out₀ out out₁ out₂ : List ℕ} {at₀ at at₁ at₂ : ℕ} (i core : ℕ)
-    → i < length cs → core ≡ get_or cs i 0 → Left whole (cores_after (drop i cs)) at₀ out₀ at out → StoredAt (32 ∷ []) at out out₁ at₁
-    → StoredAt (decimal core) at₁ out₁ out₂ at₂
-    → Left whole (cores_after (drop (i + 1) cs)) at₀ out₀ at₂ out₂
-unfolding cores_after
-cores_next cs i core h e t p q =
-    let piece : cores_after (drop i cs) ≡ ((32 ∷ []) ++ decimal core) ++ cores_after (drop (i + 1) cs) =
-    rw (add-one i, drop-cons cs i 0 h, e) in
-    left_next piece t (joined p q)
+-- a line of cores, of which there is none
+pub line_none : (cs before after : List ℕ) → length cs < 1 → after ≡ before ++ (10 ∷ []) → after ≡ before ++ cores_line cs
+unfolding cores_line
+line_none [] before after h e = e
+line_none (c ∷ cs) before after h e = absurd (omega arith)
 
--- what the public contracts say of a text: its length and the buffer
-abbrev pub Stored : List ℕ → List ℕ → List ℕ → ℕ → Type 0
-Stored text before after n = ((n ≡ length text) × (n ≤ 48)) × (after ≡ sets before 0 text)
-
-pub from_start : {text before after : List ℕ} {n : ℕ} → StoredAt text 0 before after n → length text ≤ 48 → Stored text before after n
-from_start t h = ((omega (arith, t.place), omega (arith, t.place)), t.stored)
+-- a line of cores, of which the first is put, then the others, then the newline
+pub line_all : (cs before first all after : List ℕ) (i : ℕ)
+    → 1 ≤ length cs
+    → length (take (length cs - 1) (drop 1 cs)) ≤ i
+    → first ≡ before ++ decimal (get_or cs 0 0)
+    → all ≡ first ++ cores_after (take i (take (length cs - 1) (drop 1 cs)))
+    → after ≡ all ++ (10 ∷ [])
+    → after ≡ before ++ cores_line cs
+unfolding cores_line
+line_all [] before first all after i h most e f g = absurd (omega arith)
+line_all (c ∷ cs) before first all after i h most e f g =
+    let others : take (length (c ∷ cs) - 1) cs ≡ cs = take_all (length (c ∷ cs) - 1) cs (omega arith) in
+    let enough : length cs ≤ i = rw others at most in
+    let passed : take i cs ≡ cs = take_all i cs enough in
+    rw (g, f, e, others, passed) (simp append_assoc)

@@ -1,15 +1,15 @@
 -- Decimal numbers in ASCII: what a text is as a number.
 -- Assumes nothing.
-use Rattle.std.specs.Prelude.{ℕ, ◌+◌, ◌-◌, ◌*◌, Bool, true, false, cond, ◌&&◌, List, [], ◌∷◌, eqb}
+use Rattle.std.specs.Prelude.{ℕ, ◌+◌, ◌-◌, ◌*◌, Bool, true, false, cond, ◌&&◌, List, [], ◌∷◌, Option, None, Some, eqb}
 use Rattle.symbology.specs.Ranges.{within}
 
 -- an ASCII digit
 abbrev pub is_digit : ℕ → Bool
 is_digit b = within 48 57 b
 
--- the number that a digit writes, and 10 for any other byte
-abbrev pub digit_of : ℕ → ℕ
-digit_of b = cond (is_digit b) (b - 48) 10
+-- the number that a digit writes; any other byte writes none
+abbrev pub digit_of : ℕ → Option ℕ
+digit_of b = cond (is_digit b) (Some (b - 48)) None
 
 -- nothing follows
 abbrev pub is_end : List ℕ → Bool
@@ -29,8 +29,8 @@ is_numeral (b ∷ bs) = is_digit b && rest_of_numeral bs
 -- the number that n and then the digits write; what is no digit is passed over
 unfoldable pub numeral_value : ℕ → List ℕ → ℕ
 numeral_value n [] = n
-numeral_value n (b ∷ bs) = numeral_value (cond (is_digit b) (10 * n + digit_of b) n) bs
+numeral_value n (b ∷ bs) = numeral_value (cond (is_digit b) (10 * n + (b - 48)) n) bs
 
--- the number that the text is, and 0 where it is none
-unfoldable pub number_in : List ℕ → ℕ
-number_in text = cond (is_numeral text) (numeral_value 0 text) 0
+-- the number that the text is, where it is one
+unfoldable pub number_in : List ℕ → Option ℕ
+number_in text = cond (is_numeral text) (Some (numeral_value 0 text)) None

@@ -1,9 +1,10 @@
 -- The states of the scan of an input, byte by byte.
 -- Assumes nothing.
-use Rattle.std.specs.Prelude.{ℕ, ◌+◌, ◌*◌, cond, List, [], ◌∷◌, ltb, eqb}
+use Rattle.std.specs.Prelude.{ℕ, ◌+◌, ◌-◌, ◌*◌, cond, List, Option, None, Some, ltb, eqb}
+use Rattle.std.specs.List.{fold}
 use Rattle.lister.specs.declared.Numeral.{Numeral}
 use Rattle.lister.specs.declared.Numeral.TheVariants.{Start, Digits, Ended, Broken}
-use Rattle.lister.specs.Numeral.{digit_of}
+use Rattle.lister.specs.Numeral.{is_digit}
 
 -- one digit more; above 32 a number stays as it is
 abbrev pub grown : ℕ → ℕ → ℕ
@@ -11,19 +12,18 @@ grown n digit = cond (ltb 32 n) n (10 * n + digit)
 
 -- one byte more
 unfoldable pub scanned : Numeral → ℕ → Numeral
-scanned Start b = cond (eqb (digit_of b) 10) Broken (Digits (digit_of b))
-scanned (Digits n) b = cond (eqb b 10) (Ended n) (cond (eqb (digit_of b) 10) Broken (Digits (grown n (digit_of b))))
+scanned Start b = cond (is_digit b) (Digits (b - 48)) Broken
+scanned (Digits n) b = cond (is_digit b) (Digits (grown n (b - 48))) (cond (eqb b 10) (Ended n) Broken)
 scanned (Ended n) b = Broken
 scanned Broken b = Broken
 
 -- the bytes of a list, one after the other
-unfoldable pub scanned_all : Numeral → List ℕ → Numeral
-scanned_all s [] = s
-scanned_all s (b ∷ bs) = scanned_all (scanned s b) bs
+abbrev pub scanned_all : Numeral → List ℕ → Numeral
+scanned_all state bytes = fold scanned state bytes
 
--- the number of an input in this state: 0 where it is none, and some number above 32 where it is above 32
-abbrev pub scan_number : Numeral → ℕ
-scan_number Start = 0
-scan_number (Digits n) = n
-scan_number (Ended n) = n
-scan_number Broken = 0
+-- the number of an input in this state, where it is one; some number above 32 where it is above 32
+abbrev pub scan_number : Numeral → Option ℕ
+scan_number Start = None
+scan_number (Digits n) = Some n
+scan_number (Ended n) = Some n
+scan_number Broken = None

@@ -1,17 +1,20 @@
 // The side lister's work: a decimal number in, the side of that side-version out as text.
 //
 // `list_side` is the whole of it for an input in memory. A program whose input may be of any length
-// calls `scan` for each piece of it, and at the end `side_text` with what `number_of` gives.
+// calls `scan` for each piece of it, and at the end `number_text` with what `number_of` gives.
 #![tactic(auto)]
 
-ghost use Rattle.std.specs.Prelude.{◌+◌, ◌≤◌, ◌<◌, ◌≡◌, length, drop};
+ghost use Rattle.std.specs.Prelude.{◌+◌, ◌++◌, ◌≤◌, ◌<◌, ◌≡◌, length, IfSome};
 ghost use Rattle.std.proofs.lemmas.List.Edits.{sets};
 ghost use Rattle.symbology.specs.Sides.{cores_of};
-ghost use Rattle.pieces.specs.Pieces.{StoredAt};
 ghost use Rattle.lister.specs.Decimal.{decimal};
 ghost use Rattle.lister.specs.Numeral.{digit_of};
 ghost use Rattle.lister.specs.Scanning.{grown, scanned, scanned_all, scan_number};
-ghost use Rattle.lister.specs.Listing.{number_line, cores_after, cores_line, side_text, listing};
+ghost use Rattle.lister.specs.Listing.{number_line, cores_line, side_text, number_text, listing};
+
+use arrayvec::ArrayString;
+
+const REFUSED: &str = "refused 1\n";
 
 // ---- the number that a text is, read piece by piece
 
@@ -31,48 +34,30 @@ fn grow(n: usize, digit: usize) -> usize
     requires { digit < 10 }
     ensures { result ≡ grown n digit }
 {
-    if 32 < n {
-        return n;
-    }
-    10 * n + digit
+    if 32 < n { n } else { 10 * n + digit }
 }
 
-// The number that a digit writes, and 10 for any other byte.
-fn digit_of(b: u8) -> usize
-    ensures { (result ≡ digit_of b) × (result ≤ 10) }
+// The number that a digit writes.
+fn digit_of(b: u8) -> Option<usize>
+    ensures value { result ≡ digit_of b }
+    ensures small { IfSome result (λ d. d < 10) }
 {
-    if b < 48 {
-        return 10;
+    match b {
+        b'0'..=b'9' => Some(usize::from(b - b'0')),
+        _ => None,
     }
-    if 57 < b {
-        return 10;
-    }
-    (b - 48) as usize
 }
 
 // The state after one more byte.
+#[tactic(auto, unfolding(crate::specs::Scanning::scanned))]
 fn scan_byte(state: Numeral, b: u8) -> Numeral
     ensures { result ≡ scanned state b }
 {
-    let digit = digit_of(b);
-    match state {
-        Numeral::Start => {
-            if digit == 10 {
-                return Numeral::Broken;
-            }
-            Numeral::Digits(digit)
-        }
-        Numeral::Digits(n) => {
-            if b == 10 {
-                return Numeral::Ended(n);
-            }
-            if digit == 10 {
-                return Numeral::Broken;
-            }
-            Numeral::Digits(grow(n, digit))
-        }
-        Numeral::Ended(_) => Numeral::Broken,
-        Numeral::Broken => Numeral::Broken,
+    match (state, digit_of(b)) {
+        (Numeral::Start, Some(digit)) => Numeral::Digits(digit),
+        (Numeral::Digits(n), Some(digit)) => Numeral::Digits(grow(n, digit)),
+        (Numeral::Digits(n), None) if b == b'\n' => Numeral::Ended(n),
+        _ => Numeral::Broken,
     }
 }
 
@@ -80,143 +65,102 @@ fn scan_byte(state: Numeral, b: u8) -> Numeral
 pub fn scan(state: Numeral, bytes: &[u8]) -> Numeral
     ensures { result ≡ scanned_all state bytes.now }
 {
-    let mut s = state;
-    let mut i = 0;
-    while i < bytes.len() {
-        s = scan_byte(s, bytes[i]);
-        i += 1;
-    }
-    s
+    bytes.iter().fold(state, |s, b| scan_byte(s, *b))
 }
 
-// The number that an input in this state is: 0 where it is none, and some number above 32, which
-// need not be its own, where it is above 32.
-pub fn number_of(state: Numeral) -> usize
+// The number that an input in this state is, where it is one. Above 32 it is some number above 32,
+// which need not be the input's own.
+pub fn number_of(state: Numeral) -> Option<usize>
     ensures { result ≡ scan_number state }
 {
     match state {
-        Numeral::Start => 0,
-        Numeral::Digits(n) => n,
-        Numeral::Ended(n) => n,
-        Numeral::Broken => 0,
+        Numeral::Digits(n) | Numeral::Ended(n) => Some(n),
+        Numeral::Start | Numeral::Broken => None,
     }
 }
 
-// ---- the text of a side. Each function stores from `at` on, as far as the buffer reaches, and answers the place
-// behind the text. A buffer that is too short holds the front of it.
+// ---- the text of a side: 48 bytes hold any of them
 
-fn digit(d: usize) -> u8
-    requires { d < 10 }
-    ensures { result ≡ 48 + d }
+// Puts a number in decimal behind a text.
+fn push_decimal(text: &mut ArrayString<48>, n: u8)
+    requires { length text.old.bytes ≤ 45 }
+    ensures appended { text.new.bytes ≡ text.old.bytes ++ decimal n }
+    ensures short { length text.new.bytes ≤ length text.old.bytes + 3 }
 {
-    48 + d as u8
+    let mut digits = itoa::Buffer::new();
+    text.push_str(digits.format(n));
 }
 
-// A number of one or two digits.
-fn put_short(out: &mut [u8], at: usize, n: usize) -> usize
-    requires { (at < 65535) × (n < 100) }
-    ensures { StoredAt (decimal n) at out.old out.new result }
+#[tactic(auto, unfolding(crate::specs::Listing::number_line))]
+fn push_number_line(text: &mut ArrayString<48>, n: u8)
+    requires { length text.old.bytes ≤ 44 }
+    ensures appended { text.new.bytes ≡ text.old.bytes ++ number_line n }
+    ensures short { length text.new.bytes ≤ length text.old.bytes + 4 }
 {
-    if n < 10 {
-        pieces::put(out, at, digit(n));
-        return at + 1;
-    }
-    pieces::put(out, at, digit(n / 10));
-    let next = at + 1;
-    pieces::put(out, next, digit(n % 10));
-    next + 1
+    push_decimal(text, n);
+    text.push('\n');
 }
 
-// A number of up to three digits.
-fn put_decimal(out: &mut [u8], at: usize, n: usize) -> usize
-    requires { (at < 65534) × (n < 1000) }
-    ensures { StoredAt (decimal n) at out.old out.new result }
-{
-    if n < 100 {
-        return put_short(out, at, n);
-    }
-    let next = put_short(out, at, n / 10);
-    pieces::put(out, next, digit(n % 10));
-    next + 1
-}
-
-fn put_number_line(out: &mut [u8], at: usize, n: usize) -> usize
-    requires { (at < 65533) × (n < 1000) }
-    ensures { StoredAt (number_line n) at out.old out.new result }
-{
-    let next = put_decimal(out, at, n);
-    pieces::put(out, next, 10);
-    next + 1
-}
-
-fn wide(b: u8) -> usize
-    ensures { result ≡ b }
-{
-    b as usize
-}
-
-// The core coordinates but the first, a space before each.
-fn put_cores(out: &mut [u8], at: usize, version: usize) -> usize
-    requires { (at < 65000) × (1 ≤ version) × (version ≤ 32) }
-    ensures { StoredAt (cores_after (drop 1 (cores_of version))) at out.old out.new result }
+// The line of all core coordinates, a space between two.
+fn push_cores_line(text: &mut ArrayString<48>, version: usize)
+    requires { (length text.old.bytes ≤ 8) × (1 ≤ version) × (version ≤ 32) }
+    ensures appended { text.new.bytes ≡ text.old.bytes ++ cores_line (cores_of version) }
+    ensures short { length text.new.bytes ≤ length text.old.bytes + 36 }
 {
     let row = tables::core_row(version);
-    let n = wide(row.len);
-    let mut next = at;
-    let mut i = 1;
-    while i < n {
-        let core = wide(row.at[i]);
-        pieces::put(out, next, 32);
-        next = put_decimal(out, next + 1, core);
-        i += 1;
+    if let [first, others @ ..] = row.cores() {
+        push_decimal(text, *first);
+        for core in others {
+            text.push(' ');
+            push_decimal(text, *core);
+        }
     }
-    next
+    text.push('\n');
 }
 
-// The line of all core coordinates. Each side has its first at 4.
-fn put_cores_line(out: &mut [u8], at: usize, version: usize) -> usize
-    requires { (at < 60000) × (1 ≤ version) × (version ≤ 32) }
-    ensures { StoredAt (cores_line (cores_of version)) at out.old out.new result }
-{
-    pieces::put(out, at, 52);
-    let next = put_cores(out, at + 1, version);
-    pieces::put(out, next, 10);
-    next + 1
-}
-
+// Stores a text as far as the buffer reaches, and answers its length.
 fn put_text(out: &mut [u8], text: &[u8]) -> usize
-    ensures { StoredAt text.now 0 out.old out.new result }
+    ensures value { result ≡ length text.now }
+    ensures out_after { out.new ≡ sets out.old 0 text.now }
 {
-    let mut at = 0;
-    while at < text.len() {
-        pieces::put(out, at, text[at]);
-        at += 1;
-    }
-    at
+    pieces::put_all(out, 0, text)
 }
 
 // The three lines of a side-version, or the refusal, and their length. 48 bytes hold any of them; a
 // shorter buffer holds the front.
+#[tactic(auto, unfolding(crate::specs::Listing::side_text, crate::specs::Listing::refused_line))]
 pub fn side_text(version: usize, out: &mut [u8]) -> usize
     ensures value { (result ≡ length (side_text version)) × (result ≤ 48) }
     ensures out_after { out.new ≡ sets out.old 0 (side_text version) }
 {
-    if version < 1 {
-        return put_text(out, b"refused 1\n");
+    let mut text = ArrayString::<48>::new();
+    if (1..=32).contains(&version) {
+        push_number_line(&mut text, tables::side_size(version as u32) as u8);
+        push_cores_line(&mut text, version);
+        push_number_line(&mut text, tables::inner_patterns(version, version) as u8);
+    } else {
+        text.push_str(REFUSED);
     }
-    if 32 < version {
-        return put_text(out, b"refused 1\n");
+    put_text(out, text.as_str().as_bytes())
+}
+
+// The same for a number, where there is one; what is no number is refused.
+#[tactic(auto, unfolding(crate::specs::Listing::number_text, crate::specs::Listing::refused_line))]
+pub fn number_text(number: Option<usize>, out: &mut [u8]) -> usize
+    ensures value { (result ≡ length (number_text number)) × (result ≤ 48) }
+    ensures out_after { out.new ≡ sets out.old 0 (number_text number) }
+{
+    match number {
+        Some(version) => side_text(version, out),
+        None => put_text(out, REFUSED.as_bytes()),
     }
-    let second = put_number_line(out, 0, tables::side_size(version as u32));
-    let third = put_cores_line(out, second, version);
-    put_number_line(out, third, tables::inner_patterns(version, version))
 }
 
 // What the side lister prints for an input, whatever it is, and its length.
+#[tactic(auto, using(crate::proofs::Listing::scan_listing))]
 pub fn list_side(input: &[u8], out: &mut [u8]) -> usize
     ensures value { (result ≡ length (listing input.now)) × (result ≤ 48) }
     ensures out_after { out.new ≡ sets out.old 0 (listing input.now) }
 {
-    let version = number_of(scan(Numeral::Start, input));
-    side_text(version, out)
+    number_text(number_of(scan(Numeral::Start, input)), out)
 }

@@ -5,8 +5,7 @@ use Prim.Native.Nat.{ℕ, suc, ◌+◌, ◌*◌, ◌≤◌, ◌<◌}
 use mathlib.Core.Path.{◌≡◌, refl, sym, ap, ap₂, ◌∙◌, subst, subst⁻¹}
 use mathlib.Core.Bool.{false}
 use mathlib.Core.List.{List, [], ◌∷◌, ◌++◌, append_assoc, append-nil, map-append}
-use mathlib.Core.Logic.{inl, inr}
-use native.Mathlib.Decide.{dec_lt}
+use mathlib.Core.Logic.{inl}
 use native.Mathlib.Numerals.{add-one}
 use native.Mathlib.Omega.{arith}
 use lib.Dec.{ltb}
@@ -15,23 +14,23 @@ use borrow.Author.Tests.{ne_eqb}
 use Rattle.symbology.specs.Bits.{AllBits}
 use Rattle.symbology.specs.Rule.{unmet_count, suspect, turned, ends, repairs_of, places_of, last_word, stuck}
 use Rattle.symbology.specs.Steps.{LowestSuspect, Ended}
-use Rattle.laws.proofs.Rule.{AllOnce, checks_once, turned_bits, step_lowers, suspect_to, suspect_lowest, lowest_suspect, suspect_none}
+use Rattle.laws.proofs.Rule.{AllOnce, checks_once, turned_bits, step_lowers, lowest_suspect}
 use Rattle.laws.proofs.Rule.{unmet_few, ended_ends, length_places}
 use Rattle.laws.proofs.Steps.{run_ends, run_goes, repairs_bounded}
 use Rattle.lent.specs.declared.Areas.{Areas}
 use Rattle.lent.specs.Changes.{Changed}
 use Rattle.lent.specs.Buffer.{number_at, numbers_at, stored_number}
 use Rattle.lent.specs.Work.{word_row_span, marks_span, word_span, numbers_span, repaired_span, Laid, word_in}
-use Rattle.lent.proofs.Buffer.{length_part, length_numbers, numbers_none, numbers_last, numbers_same, stored_there, stored_other}
+use Rattle.lent.proofs.Buffer.{length_numbers, numbers_none, numbers_last, numbers_same, stored_there, stored_other}
 use Rattle.lent.proofs.Changes.{changed_none, changed_wider, changed_then, changed_stored}
-use Rattle.lent.proofs.Work.{laid_as, word_inside, word_kept}
+use Rattle.lent.proofs.Work.{laid_as, word_kept}
 use Rattle.checks.specs.Checks.{stands_in, checks_in}
 use Rattle.checks.proofs.Checks.{checks_kept}
 use Rattle.syndrome.specs.Syndrome.{Marked, Judged}
 use Rattle.syndrome.proofs.Marks.{marked_kept}
 use Rattle.balances.specs.Balances.{Balanced, Weighed}
 use Rattle.balances.proofs.Balances.{balanced_kept}
-use Rattle.mending.specs.Mending.{BitsIn, BitTurned, RuleRun, MendedBy}
+use Rattle.mending.specs.Mending.{BitsIn, InRepair, BitTurned, RuleRun, MendedBy}
 
 -- ---- over words
 
@@ -74,30 +73,6 @@ module _ {cs : List (List ℕ)} {from now sofar : List ℕ} (r : RunTo cs from n
       let over : (repairs_of cs now ≡ []) × (last_word cs now ≡ now) = run_ends cs now (ended_ends cs now e) in
       (sym over.1 ∙ r.same_last, sym (append-nil sofar) ∙ ap (λ (js : List ℕ). sofar ++ js) (sym over.0) ∙ r.turns)
 
--- ---- a step over the work buffer
-
-module _ (a : Areas) (work : List ℕ) {j : ℕ} (laid : Laid a (length work)) (found : j ≡ suspect (checks_in a work) (word_in a work)) where
-  long : length (word_in a work) ≡ a.gross
-  long = length_part work a.word a.gross (word_inside laid)
-
-  -- the search found no bit: the rule has ended
-  pub none_found : j ≡ a.gross → Ended (checks_in a work) (word_in a work)
-  none_found none = inr (suspect_none (checks_in a work) (word_in a work) (sym found ∙ none ∙ sym long))
-
-  -- it found one
-  pub found_inside : (j ≡ a.gross → ⊥) → j < a.gross
-  found_inside some =
-      let most : j ≤ a.gross = omega (arith, found, suspect_to (checks_in a work) (word_in a work), long) in
-      elim (dec_lt j a.gross) [
-        | yes h ↦ h
-        | no h ↦ absurd (some (omega arith))
-      ]
-
-  pub found_lowest : (j ≡ a.gross → ⊥) → LowestSuspect (checks_in a work) (word_in a work) j
-  found_lowest some =
-      subst⁻¹ (LowestSuspect (checks_in a work) (word_in a work)) found
-      (suspect_lowest (checks_in a work) (word_in a work) (omega (arith, found, long, found_inside some)))
-
 -- ---- the run over the work buffer
 
 -- the places of one bit more
@@ -116,17 +91,16 @@ pub record MendedTo (a : Areas) (start work : List ℕ) (repairs : ℕ) : Type 0
   pub places : numbers_at work a.repaired repairs ≡ places_of sofar
 
 -- it starts with marks and balances made
-pub mended_start : {a : Areas} {start : List ℕ} → Laid a (length start) → BitsIn a start → Marked a start → Balanced a start
-    → MendedTo a start start 0
+pub mended_start : {a : Areas} {start : List ℕ} → InRepair a start → MendedTo a start start 0
 unfolding places_of
-mended_start {a} {start} laid bits marked balanced =
+mended_start {a} {start} r =
     record {
-      laid = laid;
+      laid = r.laid;
       changed = changed_none (marks_span a ∷ word_span a ∷ numbers_span a ∷ repaired_span a ∷ []) start;
-      marked = marked;
-      balanced = balanced;
+      marked = r.marked;
+      balanced = r.balanced;
       sofar = [];
-      run = run_start (checks_in a start) (word_in a start) bits;
+      run = run_start (checks_in a start) (word_in a start) r.bits;
       places = numbers_none start a.repaired;
     }
 
@@ -246,8 +220,14 @@ module _ {a : Areas} {before start : List ℕ} {first : ℕ} (laid : Laid a (len
   ready_word = word_kept laid r.changed (λ q l g. omega arith)
 
   -- what running the rule asks for
-  pub ready_bits : BitsIn a before → Laid a (length start) × BitsIn a start × Marked a start × Balanced a start
-  ready_bits bits = (laid_as laid r.changed.long, subst⁻¹ AllBits ready_word bits, r.marked, r.balanced)
+  pub ready_bits : BitsIn a before → InRepair a start
+  ready_bits bits =
+      record {
+        laid = laid_as laid r.changed.long;
+        bits = subst⁻¹ AllBits ready_word bits;
+        marked = r.marked;
+        balanced = r.balanced;
+      }
 
 -- Marks and balances were made, the rule was run, and `left` checks are unmet then.
 pub mended_run : {a : Areas} {before start after : List ℕ} {first repairs left : ℕ} → Laid a (length before) → BitsIn a before

@@ -22,7 +22,7 @@ use Rattle.checks.specs.Checks.{stands_in}
 use Rattle.checks.proofs.Checks.{check_kept}
 use Rattle.syndrome.specs.Syndrome.{Marked}
 use Rattle.balances.specs.Balances.{MarksTurned}
-use Rattle.mending.specs.Mending.{BitsIn, BitTurned}
+use Rattle.mending.specs.Mending.{InRepair, BitTurned}
 use Rattle.balances.proofs.Balances.{balanced_kept}
 
 -- whether a check is unmet changes as its mark does
@@ -36,8 +36,11 @@ pub bit_kept : {a : Areas} {j : ℕ} {before middle : List ℕ} → Laid a (leng
 bit_kept {a} {before = before} laid t i h =
     t.changed.kept (a.word + i) (omega arith) ∙ sym (part_at before a.word a.gross i h)
 
-module _ {a : Areas} {j : ℕ} {before middle : List ℕ} (laid : Laid a (length before)) (bits : BitsIn a before) (marked : Marked a before)
-    (inside : j < a.gross) (t : MarksTurned a j before middle) where
+module _ {a : Areas} {j : ℕ} {before middle : List ℕ} (r : InRepair a before) (inside : j < a.gross)
+    (t : MarksTurned a j before middle) where
+  laid : Laid a (length before)
+  laid = r.laid
+
   v : ℕ
   v = 1 - get_or middle (a.word + j) 0
 
@@ -78,10 +81,10 @@ module _ {a : Areas} {j : ℕ} {before middle : List ℕ} (laid : Laid a (length
       let f : ℕ → Bool = stands_in a before i in
       let c : List ℕ = those a.gross f in
       let there : has j c ≡ f j = has_those f a.gross j inside in
-      let change = unmet_change c w j (once_those a.gross f) bits (omega (arith, long)) in
+      let change = unmet_change c w j (once_those a.gross f) r.bits (omega (arith, long)) in
       stored.kept (a.marks + i) (omega arith)
       ∙ t.turns i h
-      ∙ ap (λ (x : ℕ). cond (f j) (1 - x) x) (marked i h)
+      ∙ ap (λ (x : ℕ). cond (f j) (1 - x) x) (r.marked i h)
       ∙ sym (mark_change (f j) (unmet c w) (unmet c (turned w j)) (rw there at change))
       ∙ sym (ap₂ unmet (check_kept laid changes (λ q m u. omega arith) i h) new)
 

@@ -1,22 +1,31 @@
 -- The rule, run over the work buffer.
 -- Assumes nothing.
-use Rattle.std.specs.Prelude.{ℕ, ◌≤◌, ◌≡◌, Bool, List, [], ◌∷◌, length}
+use Rattle.std.specs.Prelude.{ℕ, ◌≤◌, ◌<◌, ◌≡◌, Bool, Option, None, Some, List, [], ◌∷◌, length}
 use Rattle.symbology.specs.Bits.{AllBits}
-use Rattle.symbology.specs.Rule.{unmet_count, turned, repairs_of, places_of, last_word, stuck}
+use Rattle.symbology.specs.Rule.{unmet_count, unmet_at, met_at, turned, repairs_of, places_of, last_word, stuck}
 use Rattle.symbology.specs.Steps.{LowestSuspect, Ended}
 use Rattle.lent.specs.declared.Areas.{Areas}
 use Rattle.lent.specs.Changes.{Changed}
 use Rattle.lent.specs.Buffer.{numbers_at}
-use Rattle.lent.specs.Work.{word_row_span, marks_span, word_span, numbers_span, repaired_span, word_in}
+use Rattle.lent.specs.Work.{word_row_span, marks_span, word_span, numbers_span, repaired_span, Laid, word_in}
 use Rattle.checks.specs.Checks.{checks_in}
 use Rattle.syndrome.specs.Syndrome.{Marked}
 use Rattle.balances.specs.Balances.{Balanced}
-use Rattle.mending.specs.declared.Step.{Step}
-use Rattle.mending.specs.declared.Step.TheVariants.{Turned, End}
 
 -- the word consists of bits
 abbrev pub BitsIn : Areas → List ℕ → Type 0
 BitsIn a work = AllBits (word_in a work)
+
+-- The areas lie in the buffer one behind the other, the word consists of bits, and marks and balances are those of the word.
+pub record InRepair (a : Areas) (work : List ℕ) : Type 0 where
+  pub laid : Laid a (length work)
+  pub bits : BitsIn a work
+  pub marked : Marked a work
+  pub balanced : Balanced a work
+
+-- no bit of the word stands in more unmet checks than met ones
+abbrev pub NoSuspect : List (List ℕ) → List ℕ → Type 0
+NoSuspect cs w = (j : ℕ) → j < length w → unmet_at cs w j ≤ met_at cs w j
 
 -- bit j of the word is turned, marks and balances are those of the new word, and nothing else is changed
 pub record BitTurned (a : Areas) (j : ℕ) (before after : List ℕ) : Type 0 where
@@ -26,9 +35,9 @@ pub record BitTurned (a : Areas) (j : ℕ) (before after : List ℕ) : Type 0 wh
   pub balanced : Balanced a after
 
 -- What a step answers, and what it does to the buffer: the lowest suspect bit is turned, or the rule has ended and nothing is changed.
-abbrev pub Stepped : Areas → List ℕ → List ℕ → Step → Type 0
-Stepped a before after (Turned j) = LowestSuspect (checks_in a before) (word_in a before) j × BitTurned a j before after
-Stepped a before after End = Ended (checks_in a before) (word_in a before) × (after ≡ before)
+abbrev pub Stepped : Areas → List ℕ → List ℕ → Option ℕ → Type 0
+Stepped a before after (Some j) = LowestSuspect (checks_in a before) (word_in a before) j × BitTurned a j before after
+Stepped a before after None = Ended (checks_in a before) (word_in a before) × (after ≡ before)
 
 -- The rule has run from the word before to its end, with n repairs, whose places, in their order, begin the area of the places. The marks
 -- are those of the last word; the numbers are scratch then: nothing is said of them. Nothing else is changed.

@@ -4,18 +4,18 @@
 // goes to the area of the places in the work buffer.
 #![tactic(auto)]
 
-ghost use Rattle.std.specs.Prelude.{◌<◌, ◌≡◌, length};
-ghost use Rattle.symbology.specs.Rule.{suspect};
+ghost use Rattle.std.specs.Prelude.{◌<◌, length, MatchOption};
+ghost use Rattle.symbology.specs.Steps.{LowestSuspect};
 ghost use Rattle.lent.specs.Work.{Laid, word_in};
 ghost use Rattle.checks.specs.Checks.{checks_in};
 ghost use Rattle.syndrome.specs.Syndrome.{Marked};
 ghost use Rattle.balances.specs.Balances.{Balanced};
-ghost use Rattle.mending.specs.Mending.{BitsIn, BitTurned, Stepped, RuleRun, MendedBy};
+ghost use Rattle.mending.specs.Mending.{BitsIn, InRepair, NoSuspect, BitTurned, Stepped, RuleRun, MendedBy};
 
 use lent::Areas;
 
 // What mending answers: the number of repairs, that of the checks unmet at the start, and whether the
-// word is stuck.
+// word is stuck. Both numbers are told of a stuck word too, so that this is a flag and no Result.
 #[derive(Clone, Copy)]
 pub struct Mended {
     pub repairs: usize,
@@ -23,48 +23,43 @@ pub struct Mended {
     pub stuck: bool,
 }
 
-// What a step of the rule answers: the bit that it turned, or that the rule has ended.
-#[derive(Clone, Copy)]
-enum Step {
-    Turned(usize),
-    End,
-}
-
-// The lowest-numbered bit that stands in more unmet than met checks, and `gross` where there is none. A
-// bit whose balance is no more than the number of checks is passed by at once.
-fn find_suspect(work: &[u8], a: Areas) -> usize
+// The lowest-numbered bit that stands in more unmet than met checks, where there is one. A bit whose balance
+// is no more than the number of checks is passed by at once. Two loops, left by label: a form that the first
+// user's requirements name.
+fn find_suspect(work: &[u8], a: Areas) -> Option<usize>
     requires { Laid a (length work.now) × Marked a work.now × Balanced a work.now }
-    ensures { result ≡ suspect (checks_in a work.now) (word_in a work.now) }
+    ensures { let cs = checks_in a work.now in let w = word_in a work.now in MatchOption result (NoSuspect cs w) (LowestSuspect cs w) }
 {
-    let mut j = 0;
-    'bits: while j < a.gross {
+    let mut found = None;
+    'bits: for j in 0..a.gross {
         if a.checks < lent::number_at(work, a.numbers + 2 * j) {
             let mut unmet = 0usize;
             let mut met = 0usize;
-            let mut i = checks::next_check(work, a, j, 0);
+            let mut from = 0;
+            // The search for a check passes by those that the bit does not stand in, so that this is no `for`.
             loop {
-                if i == a.checks {
+                let Some(i) = checks::next_check(work, a, j, from) else {
                     if met < unmet {
+                        found = Some(j);
                         break 'bits;
                     }
                     break;
-                }
+                };
                 if work[a.marks + i] == 1 {
                     unmet += 1;
                 } else {
                     met += 1;
                 }
-                i = checks::next_check(work, a, j, i + 1);
+                from = i + 1;
             }
         }
-        j += 1;
     }
-    j
+    found
 }
 
 // Turns bit j of the word, with the marks of its checks and the balances of their bits.
 fn turn_bit(work: &mut [u8], a: Areas, j: usize)
-    requires { Laid a (length work.old) × BitsIn a work.old × Marked a work.old × Balanced a work.old × (j < a.gross) }
+    requires { InRepair a work.old × (j < a.gross) }
     ensures { BitTurned a j work.old work.new }
 {
     balances::turn_marks(work, a, j);
@@ -72,29 +67,24 @@ fn turn_bit(work: &mut [u8], a: Areas, j: usize)
     work[at] = 1 - work[at];
 }
 
-// One step of the rule.
-fn take_step(work: &mut [u8], a: Areas) -> Step
-    requires { Laid a (length work.old) × BitsIn a work.old × Marked a work.old × Balanced a work.old }
+// One step of the rule: the bit that it turned, or None where the rule has ended.
+fn take_step(work: &mut [u8], a: Areas) -> Option<usize>
+    requires { InRepair a work.old }
     ensures { Stepped a work.old work.new result }
 {
-    let j = find_suspect(work, a);
-    if j == a.gross {
-        return Step::End;
-    }
+    let j = find_suspect(work, a)?;
     turn_bit(work, a, j);
-    Step::Turned(j)
+    Some(j)
 }
 
 // Runs the rule to its end, storing the place of each repair behind those before. Answers how many there are.
 fn run_rule(work: &mut [u8], a: Areas) -> usize
-    requires { Laid a (length work.old) × BitsIn a work.old × Marked a work.old × Balanced a work.old }
+    requires { InRepair a work.old }
     ensures { RuleRun a work.old work.new result }
 {
     let mut repairs = 0usize;
-    loop {
-        let Step::Turned(j) = take_step(work, a) else {
-            break;
-        };
+    // How many steps there are is known at the end alone, so they are counted.
+    while let Some(j) = take_step(work, a) {
         lent::put_number(work, a.repaired + 2 * repairs, j + 1);
         repairs += 1;
     }
@@ -118,7 +108,7 @@ pub fn mend(work: &mut [u8], a: Areas) -> Mended
     let repairs = run_rule(work, a);
     let left = syndrome::count_unmet(work, a);
     Mended {
-        repairs: repairs,
+        repairs,
         unmet: first,
         stuck: 0 < left,
     }

@@ -1,2 +1,2 @@
--- Lemmas of the code: the switches of Tables 13 to 16.
-pub mod Switches
+-- The definitions that the functions open.
+pub mod Modes

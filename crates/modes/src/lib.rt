@@ -1,12 +1,15 @@
-// The modes of 002, 4.3, and Tables 13 to 16: how wide a code is, what it does to the mode, and document
-// 01's number where reading ends. These functions serve the stream reader.
+// The modes of 002, 4.3, and Tables 13 to 16: how wide a code is, what it does to the mode, and how a reading
+// ends. These functions serve the stream reader.
 #![tactic(auto)]
 
 ghost use Rattle.std.specs.Prelude.{ℕ, ◌≡◌};
 ghost use Rattle.symbology.specs.Modes.{mode_width, code_width, switch_of, mode_number, end_number};
 ghost use Rattle.symbology.specs.declared.Mode.TheVariants.{Upper, Lower, Numeric, Alphanumeric};
 ghost use Rattle.symbology.specs.declared.Expected.TheVariants.{Latched, Capital, MoreSwitches, ShortCount, Byte};
+ghost use Rattle.calls.specs.Answers.{answer};
+ghost use Rattle.calls.specs.Refusals.{answer_of};
 
+use calls::Refusal;
 use symbology::{Expected, Mode, ModeAnswer};
 
 // ---- widths
@@ -15,14 +18,14 @@ fn mode_width(m: Mode) -> usize
     ensures { result ≡ mode_width m }
 {
     match m {
-        Mode::Upper => 5,
-        Mode::Lower => 5,
+        Mode::Upper | Mode::Lower => 5,
         Mode::Numeric => 4,
         Mode::Alphanumeric => 6,
     }
 }
 
-// The bits of the next code.
+// The bits of the next code. The mode and the expected code are two parameters here and below, as they are two
+// fields of `ModeAnswer::Next`, which a reading takes apart: a pair of them would be no plainer.
 pub fn code_width(m: Mode, e: Expected) -> usize
     ensures { result ≡ code_width m e }
 {
@@ -43,6 +46,7 @@ pub fn code_width(m: Mode, e: Expected) -> usize
 // Tables 13 to 16, "Direct", and the value MS: what a code of a latched mode does.
 
 // Table 13.
+#[tactic(auto, unfolding(crate::proofs::Modes::switch_of, crate::proofs::Modes::character_count, crate::proofs::Modes::direct_switches))]
 fn upper_switch(v: u32) -> ModeAnswer
     ensures { result ≡ switch_of Upper Latched v }
 {
@@ -58,6 +62,7 @@ fn upper_switch(v: u32) -> ModeAnswer
 }
 
 // Table 14.
+#[tactic(auto, unfolding(crate::proofs::Modes::switch_of, crate::proofs::Modes::character_count, crate::proofs::Modes::direct_switches))]
 fn lower_switch(v: u32) -> ModeAnswer
     ensures { result ≡ switch_of Lower Latched v }
 {
@@ -73,6 +78,7 @@ fn lower_switch(v: u32) -> ModeAnswer
 }
 
 // Table 15.
+#[tactic(auto, unfolding(crate::proofs::Modes::switch_of, crate::proofs::Modes::character_count, crate::proofs::Modes::direct_switches))]
 fn numeric_switch(v: u32) -> ModeAnswer
     ensures { result ≡ switch_of Numeric Latched v }
 {
@@ -86,6 +92,7 @@ fn numeric_switch(v: u32) -> ModeAnswer
 }
 
 // Table 16, with the value of the text of 4.3.6.
+#[tactic(auto, unfolding(crate::proofs::Modes::switch_of, crate::proofs::Modes::character_count, crate::proofs::Modes::direct_switches))]
 fn alphanumeric_switch(v: u32) -> ModeAnswer
     ensures { result ≡ switch_of Alphanumeric Latched v }
 {
@@ -108,6 +115,7 @@ fn direct_switch(m: Mode, v: u32) -> ModeAnswer
 }
 
 // The same tables, "Extended": the first two switches are the same in each, to byte and to mixed mode.
+#[tactic(auto, unfolding(crate::proofs::Modes::switch_of, crate::proofs::Modes::more_switches))]
 fn extended_switch(m: Mode, v: u32) -> ModeAnswer
     ensures { result ≡ switch_of m MoreSwitches v }
 {
@@ -121,6 +129,7 @@ fn extended_switch(m: Mode, v: u32) -> ModeAnswer
 }
 
 // Appended bits 10.
+#[tactic(auto, unfolding(crate::proofs::Modes::switch_of, crate::proofs::Modes::more_switches))]
 fn third_switch(m: Mode) -> ModeAnswer
     ensures { result ≡ switch_of m MoreSwitches 2 }
 {
@@ -133,6 +142,7 @@ fn third_switch(m: Mode) -> ModeAnswer
 }
 
 // Appended bits 11.
+#[tactic(auto, unfolding(crate::proofs::Modes::switch_of, crate::proofs::Modes::more_switches))]
 fn fourth_switch(m: Mode) -> ModeAnswer
     ensures { result ≡ switch_of m MoreSwitches 3 }
 {
@@ -145,43 +155,46 @@ fn fourth_switch(m: Mode) -> ModeAnswer
 }
 
 // After a shift to uppercase mode, for one character.
+#[tactic(auto, unfolding(crate::proofs::Modes::switch_of, crate::proofs::Modes::character_count))]
 fn capital_switch(m: Mode, v: u32) -> ModeAnswer
     ensures { result ≡ switch_of m Capital v }
 {
-    if v < 27 {
-        return ModeAnswer::Next(m, Expected::Latched);
+    match v {
+        0..=26 => ModeAnswer::Next(m, Expected::Latched),
+        _ => ModeAnswer::Undefined,
     }
-    ModeAnswer::Undefined
 }
 
 // 4.3.7: the short count of a byte run; 0 says that the long one follows.
+#[tactic(auto, unfolding(crate::proofs::Modes::switch_of))]
 fn short_count(m: Mode, v: u32) -> ModeAnswer
     ensures { result ≡ switch_of m ShortCount v }
 {
-    if v == 0 {
-        return ModeAnswer::Next(m, Expected::LongCount);
+    match v {
+        0 => ModeAnswer::Next(m, Expected::LongCount),
+        _ => ModeAnswer::Next(m, Expected::Byte(v as usize - 1)),
     }
-    ModeAnswer::Next(m, Expected::Byte(v as usize - 1))
 }
 
 // A byte of a run with k more behind it, whatever its value.
+#[tactic(auto, unfolding(crate::proofs::Modes::switch_of))]
 fn after_byte(m: Mode, k: usize) -> ModeAnswer
     ensures { (v : ℕ) → result ≡ switch_of m (Byte k) v }
 {
-    if k == 0 {
-        return ModeAnswer::Next(m, Expected::Latched);
+    match k {
+        0 => ModeAnswer::Next(m, Expected::Latched),
+        _ => ModeAnswer::Next(m, Expected::Byte(k - 1)),
     }
-    ModeAnswer::Next(m, Expected::Byte(k - 1))
 }
 
 // What the code of value v does to the mode.
+#[tactic(auto, unfolding(crate::proofs::Modes::switch_of))]
 pub fn switch_of(m: Mode, e: Expected, v: u32) -> ModeAnswer
     ensures { result ≡ switch_of m e v }
 {
     match e {
         Expected::Latched => direct_switch(m, v),
-        Expected::Punctuation => ModeAnswer::Next(m, Expected::Latched),
-        Expected::Mixed => ModeAnswer::Next(m, Expected::Latched),
+        Expected::Punctuation | Expected::Mixed => ModeAnswer::Next(m, Expected::Latched),
         Expected::Capital => capital_switch(m, v),
         Expected::MoreSwitches => extended_switch(m, v),
         Expected::ShortCount => short_count(m, v),
@@ -190,38 +203,25 @@ pub fn switch_of(m: Mode, e: Expected, v: u32) -> ModeAnswer
     }
 }
 
-// ---- document 01's numbers
+// ---- how a reading ends
 
-// The number where the stream ends and a code was expected, with so many bits left, too few for it.
-pub fn end_number(e: Expected, left: usize) -> u32
-    ensures { result ≡ end_number e left }
+// The end of the stream, where a code was expected and so many bits are left, too few for it.
+pub fn end_of_stream(e: Expected, left: usize) -> Result<(), Refusal>
+    ensures { answer_of result ≡ answer (end_number e left) 0 }
 {
     match e {
-        Expected::Latched => {
-            if left == 0 {
-                return 0;
-            }
-            12
-        }
-        Expected::Punctuation => 12,
-        Expected::Mixed => 12,
-        Expected::Capital => 12,
-        Expected::MoreSwitches => 12,
-        Expected::ShortCount => 12,
-        Expected::LongCount => 12,
-        Expected::Byte(_) => 12,
+        Expected::Latched if left == 0 => Ok(()),
+        _ => Err(Refusal::BadCode),
     }
 }
 
-// The number of a mode answer: 0 where no refusal is meant.
-pub fn mode_number(a: ModeAnswer) -> u32
-    ensures { result ≡ mode_number a }
+// The end by a mode answer: no refusal where the reading goes on.
+pub fn end_by_code(a: ModeAnswer) -> Result<(), Refusal>
+    ensures { answer_of result ≡ answer (mode_number a) 0 }
 {
     match a {
-        ModeAnswer::Next(_, _) => 0,
-        ModeAnswer::EndOfMessage => 0,
-        ModeAnswer::Undefined => 12,
-        ModeAnswer::Eci => 13,
-        ModeAnswer::Fnc1 => 13,
+        ModeAnswer::Next(_, _) | ModeAnswer::EndOfMessage => Ok(()),
+        ModeAnswer::Undefined => Err(Refusal::BadCode),
+        ModeAnswer::Eci | ModeAnswer::Fnc1 => Err(Refusal::EciOrFnc1),
     }
 }

@@ -1,4 +1,2 @@
--- Lemmas of the code: the squares of a pattern, the search for a near core, and a module's colour from both.
-pub mod Squares
+-- Lemmas of the code: the search for a near core, and a module's colour from it.
 pub mod Nearness
-pub mod Meeting

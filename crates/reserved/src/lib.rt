@@ -1,150 +1,115 @@
-// The reserved list, lent by the caller: three numbers to an entry, column, row and colour index,
-// columns and rows counted from 1 and entries from 0.
+// The reserved list, lent by the caller as numbers, which is how C has it: three to an entry, column, row and
+// colour index, columns and rows counted from 1 and entries from 0.
 //
 // `judge_list` is test 2. For each entry it looks through those before it: n entries cost n × n / 2
 // comparisons, half a million for the 1,024 that are allowed. `first_entry` looks through n of them
-// once. `judge_list` answers every input; the others ask for entries that the list has.
+// once. `judge_list` answers every input; the others ask for entries that the list has. That an entry is in the
+// list is asked of its number: `Entry` is what is read there, and a type for the number would only carry the bound.
 #![tactic(auto)]
 
 ghost use Rattle.std.specs.Prelude.{◌+◌, ◌*◌, ◌≤◌, ◌<◌, ◌≡◌, not, ◌||◌, length};
-ghost use Rattle.symbology.specs.Patterns.{covered};
-ghost use Rattle.symbology.specs.Ranges.{within, lowest};
+ghost use Rattle.symbology.specs.Ranges.{within, lowest, found};
 ghost use Rattle.symbology.specs.Sides.{columns, rows};
 ghost use Rattle.symbology.specs.Reserved.{entry_column, entry_row, entry_colour, entry_at, first_entry, bad_at, list_verdict};
-ghost use Rattle.patterns.specs.Cores.{cores_for};
 
-use patterns::SideCores;
-use symbology::{ListVerdict, Params, PatternColour};
+use patterns::Patterns;
+use symbology::Params;
 
-fn wide(n: u16) -> usize
-    ensures { (result ≡ n) × (result < 65536) }
-{
-    n as usize
+// An entry: the column and row where it stands, and its colour index.
+#[derive(Clone, Copy)]
+pub struct Entry {
+    pub column: usize,
+    pub row: usize,
+    pub colour: usize,
 }
 
-fn column_of(list: &[u16], k: usize) -> usize
-    requires { 3 * k + 3 ≤ length list.now }
-    ensures { (result ≡ entry_column list.now k) × (result < 65536) }
-{
-    wide(list[3 * k])
+impl Entry {
+    // The entry k of a list.
+    pub fn at(list: &[u16], k: usize) -> Entry
+        requires { 3 * k + 3 ≤ length list.now }
+        ensures column { (result.column ≡ entry_column list.now k) × (result.column < 65536) }
+        ensures row { (result.row ≡ entry_row list.now k) × (result.row < 65536) }
+        ensures colour { (result.colour ≡ entry_colour list.now k) × (result.colour < 65536) }
+    {
+        Entry {
+            column: usize::from(list[3 * k]),
+            row: usize::from(list[3 * k + 1]),
+            colour: usize::from(list[3 * k + 2]),
+        }
+    }
 }
 
-fn row_of(list: &[u16], k: usize) -> usize
-    requires { 3 * k + 3 ≤ length list.now }
-    ensures { (result ≡ entry_row list.now k) × (result < 65536) }
-{
-    wide(list[3 * k + 1])
-}
-
-// The colour index of entry k.
-pub fn colour_of(list: &[u16], k: usize) -> usize
-    requires { 3 * k + 3 ≤ length list.now }
-    ensures { (result ≡ entry_colour list.now k) × (result < 65536) }
-{
-    wide(list[3 * k + 2])
-}
-
+#[tactic(auto, unfolding(symbology::specs::Reserved::entry_at))]
 fn stands_at(list: &[u16], k: usize, x: usize, y: usize) -> bool
     requires { 3 * k + 3 ≤ length list.now }
     ensures { result ≡ entry_at list.now x y k }
 {
-    if column_of(list, k) != x {
-        return false;
-    }
-    row_of(list, k) == y
+    let entry = Entry::at(list, k);
+    entry.column == x && entry.row == y
 }
 
-// The first of the n first entries that stands at column x, row y, and n where none does.
-pub fn first_entry(list: &[u16], n: usize, x: usize, y: usize) -> usize
+// The first of the n first entries that stands at column x, row y.
+pub fn first_entry(list: &[u16], n: usize, x: usize, y: usize) -> Option<usize>
     requires { 3 * n ≤ length list.now }
-    ensures { (result ≡ first_entry list.now n x y) × (result ≤ n) }
+    ensures { result ≡ found n (first_entry list.now n x y) }
 {
-    let mut k = 0;
-    while k < n {
+    for k in 0..n {
         if stands_at(list, k, x, y) {
-            return k;
+            return Some(k);
         }
-        k += 1;
     }
-    k
-}
-
-fn is_covered(colour: PatternColour) -> bool
-    ensures { result ≡ covered colour }
-{
-    match colour {
-        PatternColour::Outside => false,
-        PatternColour::Black => true,
-        PatternColour::Cyan => true,
-        PatternColour::Yellow => true,
-    }
+    None
 }
 
 fn is_outside(p: Params, x: usize, y: usize) -> bool
     ensures { result ≡ (not (within 1 (columns p) x) || not (within 1 (rows p) y)) }
 {
-    if x < 1 {
-        return true;
-    }
-    if tables::side_size(p.horizontal) < x {
-        return true;
-    }
-    if y < 1 {
-        return true;
-    }
-    tables::side_size(p.vertical) < y
+    let across = 1..=tables::side_size(p.horizontal);
+    let down = 1..=tables::side_size(p.vertical);
+    !across.contains(&x) || !down.contains(&y)
 }
 
 // Entry k is outside the symbol, on a pattern, at the place of an earlier one, or of a colour that
 // the symbol does not have.
-fn is_bad(p: Params, list: &[u16], cores: SideCores, k: usize) -> bool
-    requires { (cores ≡ cores_for p) × (3 * k + 3 ≤ length list.now) }
-    ensures { result ≡ bad_at p list.now k }
+#[tactic(auto, unfolding(symbology::specs::Reserved::bad_at, symbology::specs::Reserved::bad_entry, symbology::specs::Patterns::covered))]
+fn is_bad(patterns: &Patterns, list: &[u16], k: usize) -> bool
+    requires { 3 * k + 3 ≤ length list.now }
+    ensures { result ≡ bad_at patterns.now.params list.now k }
 {
-    let x = column_of(list, k);
-    let y = row_of(list, k);
-    if is_outside(p, x, y) {
-        return true;
-    }
-    if is_covered(patterns::pattern_colour(p, cores, x, y)) {
-        return true;
-    }
-    if first_entry(list, k, x, y) < k {
-        return true;
-    }
-    p.colours as usize <= colour_of(list, k)
+    let entry = Entry::at(list, k);
+    is_outside(patterns.params, entry.column, entry.row)
+        || patterns.colour_at(entry.column, entry.row).is_some()
+        || first_entry(list, k, entry.column, entry.row).is_some()
+        || patterns.params.colours as usize <= entry.colour
 }
 
-// The first bad one of the n first entries, and n where none is bad.
-fn first_bad(p: Params, list: &[u16], n: usize) -> usize
+// The first bad one of the n first entries.
+fn first_bad(patterns: &Patterns, list: &[u16], n: usize) -> Option<usize>
     requires { 3 * n ≤ length list.now }
-    ensures { result ≡ lowest (bad_at p list.now) n 0 }
+    ensures { result ≡ found n (lowest (bad_at patterns.now.params list.now) n 0) }
 {
-    let cores = patterns::side_cores(p);
-    let mut k = 0;
-    while k < n {
-        if is_bad(p, list, cores, k) {
-            return k;
+    for k in 0..n {
+        if is_bad(patterns, list, k) {
+            return Some(k);
         }
-        k += 1;
     }
-    k
+    None
 }
 
-// Test 2, whatever the parameters are.
-pub fn judge_list(p: Params, list: &[u16]) -> ListVerdict
+// Test 2, whatever the parameters are: the place of the list's first fault, if it has one.
+#[tactic(auto, unfolding(symbology::specs::Reserved::list_verdict, symbology::specs::Reserved::entry_verdict))]
+pub fn judge_list(p: Params, list: &[u16]) -> Result<(), usize>
     ensures { result ≡ list_verdict p list.now }
 {
     let n = list.len() / 3;
     if list.len() % 3 != 0 {
-        return ListVerdict::Fault(n);
+        return Err(n);
     }
     if 1024 < n {
-        return ListVerdict::Fault(1024);
+        return Err(1024);
     }
-    let place = first_bad(p, list, n);
-    if place < n {
-        return ListVerdict::Fault(place);
+    match first_bad(&Patterns::of(p), list, n) {
+        Some(place) => Err(place),
+        None => Ok(()),
     }
-    ListVerdict::Sound
 }

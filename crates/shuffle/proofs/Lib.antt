@@ -1,4 +1,4 @@
-mod Forwards
+mod Items
+mod Bytes
+mod Numbers
 mod Backwards
-mod Exchanged
-mod NumberTurns

@@ -5,9 +5,9 @@ use lister::Numeral;
 use std::io;
 use std::io::{Read, Write};
 
-// The number that the input is, read piece by piece to its end: 0 where it is none, and some number
-// above 32 where it is above 32.
-fn input_number(input: &mut impl Read) -> io::Result<usize> {
+// The number that the input is, where it is one, read piece by piece to its end. Above 32 it is some
+// number above 32. `label_codec` reads piece by piece too, with a step of its own.
+fn input_number(input: &mut impl Read) -> io::Result<Option<usize>> {
     let mut space = [0u8; 4096];
     let mut state = Numeral::Start;
     for _ in 0..u64::MAX {
@@ -22,6 +22,6 @@ fn input_number(input: &mut impl Read) -> io::Result<usize> {
 
 fn main(rt: HostRuntime) -> io::Result<()> {
     let mut out = [0u8; 48];
-    let n = lister::side_text(input_number(&mut rt.stdin())?, &mut out);
+    let n = lister::number_text(input_number(&mut rt.stdin())?, &mut out);
     rt.stdout().write_all(&out[..n])
 }

@@ -1,37 +1,34 @@
--- The last 1 of net bits, looked for from their end.
+-- The last 1 of net bits, found from their end.
 -- Assumes nothing.
-use Prim.Native.Nat.{ℕ, suc, ◌-◌, ◌%◌, ◌≤◌, ◌<◌}
-use mathlib.Core.Path.{◌≡◌, sym, ap, ◌∙◌}
-use mathlib.Core.Bool.{cond}
-use mathlib.Core.List.{List, [], ◌∷◌, ◌++◌}
+use Prim.Native.Nat.{ℕ, zero, suc, ◌%◌, ◌<◌}
+use mathlib.Core.Path.{◌≡◌, refl}
+use mathlib.Core.List.{List, [], ◌∷◌}
 use native.Mathlib.Omega.{arith}
-use lib.Dec.{eqb}
-use lib.ListN.{length, get_or, take}
-use lib.Seq.{take-suc, length-take-le}
-use borrow.Author.Tests.{ne_eqb}
-use Rattle.symbology.specs.Ranges.{tally}
+use lib.ListN.{length, get_or}
+use borrow.Author.Tests.{ne_eqb, eq-eqb}
+use Rattle.std.specs.Prelude.{Option, None, Some}
+use Rattle.std.specs.Option.{MatchOption}
 use Rattle.symbology.specs.Net.{up_to_last_one}
-use Rattle.laws.proofs.Net.{up_to_one}
+use Rattle.stream_reader.specs.Reading.{MarkedAt}
 
--- a 0 behind changes nothing
-zero_behind : (xs : List ℕ) (b : ℕ) → (b % 2 ≡ 1 → ⊥) → up_to_last_one (xs ++ (b ∷ [])) ≡ up_to_last_one xs
+-- no bit is 1
+none_one : (net : List ℕ) → ((k : ℕ) → k < length net → get_or net k 0 % 2 ≡ 1 → ⊥) → up_to_last_one net ≡ 0
 unfolding up_to_last_one
-zero_behind [] b h = rw (ne_eqb (b % 2) 1 h)
-zero_behind (x ∷ xs) b h = ap (λ (n : ℕ). cond (eqb n 0) (tally (eqb (x % 2) 1)) (suc n)) (zero_behind xs b h)
+none_one [] h = refl
+none_one (b ∷ bs) h = rw (none_one bs (λ k l. h (suc k) (omega arith)), ne_eqb (b % 2) 1 (h 0 (omega arith)))
 
--- the first n bits end with the bit before place n
-snoc : (net : List ℕ) (n : ℕ) → 0 < n → n ≤ length net → take n net ≡ take (n - 1) net ++ (get_or net (n - 1) 0 ∷ [])
-snoc net n some most =
-    let less : suc (n - 1) ≡ n = omega arith in
-    ap (λ (k : ℕ). take k net) (sym less) ∙ take-suc net (n - 1) 0 (omega arith)
+-- a bit is 1, and none behind it
+last_one : (net : List ℕ) (i : ℕ) → i < length net → get_or net i 0 % 2 ≡ 1
+    → ((k : ℕ) → i < k → k < length net → get_or net k 0 % 2 ≡ 1 → ⊥) → up_to_last_one net ≡ suc i
+unfolding up_to_last_one
+last_one [] i l e h = absurd (omega arith)
+last_one (b ∷ bs) zero l e h = rw (none_one bs (λ k m. h (suc k) (omega arith) (omega arith)), eq-eqb (b % 2) 1 e)
+last_one (b ∷ bs) (suc i) l e h =
+    rw (last_one bs i (omega arith) e (λ k a m. h (suc k) (omega arith) (omega arith)), ne_eqb (suc i) 0 (λ z. omega arith))
 
--- the first n bits less a last 0
-pub passed : (net : List ℕ) (n : ℕ) → 0 < n → n ≤ length net → (get_or net (n - 1) 0 % 2 ≡ 1 → ⊥)
-    → up_to_last_one (take n net) ≡ up_to_last_one (take (n - 1) net)
-passed net n some most h = ap up_to_last_one (snoc net n some most) ∙ zero_behind (take (n - 1) net) (get_or net (n - 1) 0) h
-
--- the first n bits, the last of which is 1
-pub found : (net : List ℕ) (n : ℕ) → 0 < n → n ≤ length net → get_or net (n - 1) 0 % 2 ≡ 1 → up_to_last_one (take n net) ≡ n
-found net n some most h =
-    ap up_to_last_one (snoc net n some most) ∙ up_to_one (take (n - 1) net) (get_or net (n - 1) 0) 0 h
-    ∙ omega (arith, length-take-le (n - 1) net (omega arith))
+pub marked_at : (net : List ℕ) (place : Option ℕ)
+    → MatchOption place ((k : ℕ) → k < length net → get_or net k 0 % 2 ≡ 1 → ⊥)
+    (λ i. (i < length net) × (get_or net i 0 % 2 ≡ 1) × ((k : ℕ) → i < k → k < length net → get_or net k 0 % 2 ≡ 1 → ⊥))
+    → MarkedAt net place
+marked_at net None h = none_one net h
+marked_at net (Some i) h = last_one net i h.0 h.1 h.2

@@ -8,36 +8,43 @@
 // mark. No symbol is made, and no work buffer lent.
 #![tactic(auto)]
 
-ghost use Rattle.std.specs.Prelude.{◌+◌, ◌≤◌, ◌<◌, ◌≡◌, length, IfOk};
+ghost use Rattle.std.specs.Prelude.{◌+◌, ◌≤◌, ◌<◌, ◌≡◌, length};
 ghost use Rattle.symbology.specs.Stream.{stream_of};
 
+use program_input::read_full;
 use std::io;
-use std::io::Read;
+
+// The bytes of a line that count. Of a longer one the next byte is passed over, and the rest taken as a
+// line of its own. The functions of a line ask for that bound, which a type for a line would only carry.
+const LINE: usize = 1024;
+
+// Room for the bits of a line, and for a message that is read.
+#[derive(Drop)]
+struct Buffers {
+    bits: [u8; 65536],
+    message: [u8; 64],
+}
 
 fn print_number(rt: &impl Print, n: usize) -> io::Result<()> {
     print!(rt; "{n} ")
 }
 
 fn is_bit(digit: u8) -> bool {
-    if digit == b'0' {
-        return true;
-    }
-    digit == b'1'
+    matches!(digit, b'0' | b'1')
 }
 
-// Stores the digits 0 and 1 of a line as bits and answers how many there are.
+// Stores the digits 0 and 1 of a line as bits and answers how many there are: the bits are lent on from the
+// buffer, whose front they are.
 fn gather(line: &[u8], bits: &mut [u8]) -> usize
     requires { length line.now ≤ length bits.old }
     ensures { result ≤ length line.now }
 {
     let mut n = 0;
-    let mut i = 0;
-    while i < line.len() {
-        if is_bit(line[i]) {
-            bits[n] = line[i] % 2;
+    for digit in line {
+        if is_bit(*digit) {
+            bits[n] = *digit % 2;
             n += 1;
         }
-        i += 1;
     }
     n
 }
@@ -49,18 +56,28 @@ fn print_message(rt: &impl Print, number: u32, message: &[u8]) -> io::Result<()>
     rt.write_all(b"\n")
 }
 
-fn read_line(rt: &impl Print, line: &[u8], bits: &mut [u8], message: &mut [u8]) -> io::Result<()>
-    requires { length line.now ≤ length bits.old }
+// Reads net bits into a message's buffer. Answers document 01's number and the message's length: what is printed
+// is two numbers, so that this is no Result.
+fn read_net(net: &[u8], message: &mut [u8]) -> (u32, usize)
+    ensures { result.1 ≤ length message.new }
 {
-    let n = gather(line, bits);
-    let answer = stream_reader::read_net(&bits[..n], message.len(), message);
-    let end = answer.length;
-    print_message(rt, answer.number, &message[..end])
+    match stream_reader::read_net(net, message.len(), message) {
+        Ok(length) => (0, length),
+        Err(refusal) => (refusal.number(), 0),
+    }
+}
+
+fn read_line(rt: &impl Print, line: &[u8], buffers: &mut Buffers) -> io::Result<()>
+    requires { length line.now ≤ 65536 }
+{
+    let n = gather(line, &mut buffers.bits);
+    let (number, length) = read_net(&buffers.bits[..n], &mut buffers.message);
+    print_message(rt, number, &buffers.message[..length])
 }
 
 fn print_bits(rt: &impl Print, bits: &[u8]) -> io::Result<()> {
     for bit in bits {
-        rt.write_all(&[48 + *bit % 2])?;
+        rt.write_all(&[b'0' + *bit % 2])?;
     }
     Ok(())
 }
@@ -68,10 +85,8 @@ fn print_bits(rt: &impl Print, bits: &[u8]) -> io::Result<()> {
 fn print_test_6(rt: &impl Print, message: &[u8], net: usize) -> io::Result<()>
     requires { net ≤ 65536 }
 {
-    if stream_writer::exceeds_net(message, net) {
-        return print_number(rt, 6);
-    }
-    print_number(rt, 0)
+    let exceeds = stream_writer::exceeds_net(message, net);
+    print_number(rt, if exceeds { 6 } else { 0 })
 }
 
 fn print_net(rt: &impl Print, message: &[u8], net: &mut [u8]) -> io::Result<()>
@@ -90,81 +105,38 @@ fn stream_length(message: &[u8]) -> usize
     stream_writer::stream_length(message)
 }
 
-fn write_line(rt: &impl Print, message: &[u8], bits: &mut [u8]) -> io::Result<()>
-    requires { (length message.now ≤ 1024) × (length bits.old ≡ 65536) }
+fn write_line(rt: &impl Print, message: &[u8], buffers: &mut Buffers) -> io::Result<()>
+    requires { length message.now ≤ 1024 }
 {
     let n = stream_length(message);
     print_number(rt, n)?;
     print_test_6(rt, message, n)?;
     print_test_6(rt, message, n + 1)?;
-    let end = n + 4;
-    print_net(rt, message, &mut bits[..end])
+    print_net(rt, message, &mut buffers.bits[..n + 4])
 }
 
-fn run_line(rt: &impl Print, line: &[u8], bits: &mut [u8], message: &mut [u8]) -> io::Result<()>
-    requires { (length line.now ≤ 1024) × (length bits.old ≡ 65536) }
+fn run_line(rt: &impl Print, line: &[u8], buffers: &mut Buffers) -> io::Result<()>
+    requires { length line.now ≤ 1024 }
 {
-    if line.len() < 2 {
-        return Ok(());
+    match line {
+        [b'r', _, ..] => read_line(rt, line, buffers),
+        [b'w', _, message @ ..] => write_line(rt, message, buffers),
+        _ => Ok(()),
     }
-    if line[0] == b'r' {
-        return read_line(rt, line, bits, message);
-    }
-    if line[0] == b'w' {
-        return write_line(rt, &line[2..], bits);
-    }
-    Ok(())
-}
-
-// Where the line that starts at `from` ends, at most 1,024 bytes on.
-fn line_end(input: &[u8], from: usize) -> usize
-    requires { from ≤ length input.now }
-    ensures { (from ≤ result) × (result ≤ from + 1024) × (result ≤ length input.now) }
-{
-    let mut to = from;
-    while to < input.len() {
-        if input[to] == b'\n' {
-            return to;
-        }
-        if to - from == 1024 {
-            return to;
-        }
-        to += 1;
-    }
-    to
-}
-
-fn run_lines(rt: &impl Print, input: &[u8], bits: &mut [u8], message: &mut [u8]) -> io::Result<()>
-    requires { length bits.old ≡ 65536 }
-{
-    let mut from = 0;
-    while from < input.len() {
-        let to = line_end(input, from);
-        run_line(rt, &input[from..to], bits, message)?;
-        from = to + 1;
-    }
-    Ok(())
-}
-
-// Reads until the buffer is full or the input ends, and answers how many bytes came.
-fn read_full(input: &mut impl Read, buf: &mut [u8]) -> io::Result<usize>
-    ensures { IfOk result (λ n. n ≤ length buf.new) }
-{
-    let mut done = 0;
-    while done < buf.len() {
-        let n = input.read(&mut buf[done..])?;
-        if n == 0 {
-            break;
-        }
-        done += n;
-    }
-    Ok(done)
 }
 
 fn main(rt: HostRuntime) -> io::Result<()> {
     let mut input = [0u8; 65536];
-    let mut bits = [0u8; 65536];
-    let mut message = [0u8; 64];
+    let mut buffers = Buffers {
+        bits: [0; 65536],
+        message: [0; 64],
+    };
     let n = read_full(&mut rt.stdin(), &mut input)?;
-    run_lines(&rt, &input[..n], &mut bits, &mut message)
+    for line in input[..n].split_inclusive(|b| *b == b'\n') {
+        for part in line.chunks(LINE + 1) {
+            let kept = &part[..part.len().min(LINE)];
+            run_line(&rt, kept.strip_suffix(b"\n").unwrap_or(kept), &mut buffers)?;
+        }
+    }
+    Ok(())
 }

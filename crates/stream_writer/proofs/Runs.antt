@@ -1,13 +1,12 @@
 -- The pieces of a run and of a stream, stored one behind the other.
 -- Assumes nothing.
-use Prim.Native.Nat.{ℕ, ◌+◌, ◌-◌, ◌≤◌, ◌<◌}
-use mathlib.Core.Path.{◌≡◌, refl, sym, ◌∙◌}
-use mathlib.Core.List.{List, ◌++◌}
-use native.Mathlib.Decide.{dec_lt}
+use Prim.Native.Nat.{ℕ, min, ◌+◌, ◌≤◌, ◌<◌}
+use mathlib.Core.Path.{◌≡◌, refl, ◌∙◌}
+use mathlib.Core.List.{List, [], ◌∷◌, ◌++◌, append-nil}
 use native.Mathlib.Numerals.{add-one}
 use native.Mathlib.Omega.{arith}
-use lib.ListN.{length, get_or, take, drop, length-drop, drop_of_length-le}
-use lib.Seq.{take_all, drop-cons, drop-drop, sets}
+use lib.ListN.{length, get_or, take, drop, length-append, drop_of_length-le}
+use lib.Seq.{take_all, take_at, drop_at, drop-cons, sets}
 use Rattle.symbology.specs.Bits.{bits}
 use Rattle.symbology.specs.Stream.{byte_bits, run_count, byte_run, byte_stream}
 use Rattle.laws.proofs.Bits.{length_bits}
@@ -33,22 +32,20 @@ run_pieces m = refl
 
 -- ---- a stream
 
--- The first run of what is left of a message from `from` on ends at `to`.
-module _ (m : List ℕ) (from to : ℕ) (h : (from < to) × (to ≤ length m) × (to ≤ from + 8206) × (to < length m → to ≡ from + 8206)) where
-  first_run : (take 8206 (drop from m) ≡ take (to - from) (drop from m)) × (drop 8206 (drop from m) ≡ drop to m)
-  first_run = elim (dec_lt to (length m)) [
-    | yes l ↦
-        let e : to ≡ from + 8206 = h.3 l in
-        let k : to - from ≡ 8206 = omega arith in
-        (rw k, drop-drop 8206 from m ∙ rw e)
-    | no l ↦
-        let rest : List ℕ = drop from m in
-        let few : length rest ≤ 8206 = omega (arith, length-drop from m) in
-        let all : length rest ≤ to - from = omega (arith, length-drop from m) in
-        let last : length m ≤ to = omega arith in
-        (take_all 8206 rest few ∙ sym (take_all (to - from) rest all), drop_of_length-le rest few ∙ sym (drop_of_length-le m last))
-  ]
+-- a first part of the greatest length, or of all there is
+first_run : (run more : List ℕ) → length run ≡ min 8206 (length (run ++ more))
+    → (take 8206 (run ++ more) ≡ run) × (drop 8206 (run ++ more) ≡ more)
+first_run run [] h =
+    let few : length (run ++ []) ≤ 8206 = omega (arith, length-append run []) in
+    (take_all 8206 (run ++ []) few ∙ append-nil run, drop_of_length-le (run ++ []) few)
+first_run run (b ∷ more) h =
+    let full : length run ≡ 8206 = omega (arith, length-append run (b ∷ more)) in
+    (take_at run (b ∷ more) 8206 full, drop_at run (b ∷ more) 8206 full)
 
-  pub stream_next : byte_stream (drop from m) ≡ byte_run (take (to - from) (drop from m)) ++ byte_stream (drop to m)
-  stream_next =
-      stream_first (drop from m) (omega (arith, length-drop from m)) ∙ rw (first_run.0, first_run.1)
+-- Of what is left, a part that a chunk takes off the front: its run comes first in the stream.
+pub stream_next : {size : ℕ} {rest : List ℕ} (run more : List ℕ) → size ≡ 8206
+    → (rest ≡ run ++ more) × (length run ≡ min size (length rest)) × (0 < length rest)
+    → byte_stream rest ≡ byte_run run ++ byte_stream more
+stream_next {rest = rest} run more e h =
+    let parts = first_run run more (rw (e, h.0) at h.1) in
+    stream_first rest h.2 ∙ rw (h.0, parts.0, parts.1)

@@ -23,17 +23,16 @@ fn byte_length(message: &[u8]) -> usize
 {
     let n = message.len();
     let whole = n / LONGEST_RUN * (24 + 8 * LONGEST_RUN);
-    let rest = n % LONGEST_RUN;
-    if rest == 0 {
-        return whole;
-    }
-    if rest < 16 {
-        return whole + (11 + 8 * rest);
-    }
-    whole + (24 + 8 * rest)
+    let last = match n % LONGEST_RUN {
+        0 => 0,
+        rest @ 1..=15 => 11 + 8 * rest,
+        rest => 24 + 8 * rest,
+    };
+    whole + last
 }
 
-// ---- runs. Each function stores from `at` on and answers the place behind what it stored.
+// ---- runs. Each function stores from `at` on and answers the place behind what it stored: a cursor that keeps the
+// lent buffer would need the buffer's name in each clause, and is no plainer.
 
 // The eight bits of each byte.
 fn write_bytes(out: &mut [u8], at: usize, bytes: &[u8]) -> usize
@@ -41,16 +40,15 @@ fn write_bytes(out: &mut [u8], at: usize, bytes: &[u8]) -> usize
     ensures { StoredAt (byte_bits bytes.now) at out.old out.new result }
 {
     let mut next = at;
-    let mut i = 0;
-    while i < bytes.len() {
-        bitfield::put_bits(out, next, 8, bytes[i] as usize);
+    for byte in bytes {
+        bitfield::put_bits(out, next, 8, usize::from(*byte));
         next += 8;
-        i += 1;
     }
     next
 }
 
 // The count of a run of n bytes: short from 1 to 15 and long above.
+#[tactic(auto, using(laws::proofs::ByteMode::short_length, laws::proofs::ByteMode::long_length))]
 fn write_count(out: &mut [u8], at: usize, n: usize) -> usize
     requires { (n ≤ longest_run) × (at + length (run_count n) ≤ length out.old) }
     ensures { StoredAt (run_count n) at out.old out.new result }
@@ -65,6 +63,7 @@ fn write_count(out: &mut [u8], at: usize, n: usize) -> usize
 }
 
 // A run: the switches 11111 and 00 as one number, the count, the bytes.
+#[tactic(auto, using(laws::proofs::ByteMode::run_length))]
 fn write_run(out: &mut [u8], at: usize, bytes: &[u8]) -> usize
     requires { (length bytes.now ≤ longest_run) × (at + length (byte_run bytes.now) ≤ length out.old) }
     ensures { StoredAt (byte_run bytes.now) at out.old out.new result }
@@ -72,17 +71,6 @@ fn write_run(out: &mut [u8], at: usize, bytes: &[u8]) -> usize
     bitfield::put_bits(out, at, 7, 124);
     let next = write_count(out, at + 7, bytes.len());
     write_bytes(out, next, bytes)
-}
-
-// Where the run that starts at byte `from` of n bytes ends.
-fn run_end(from: usize, n: usize) -> usize
-    requires { from < n }
-    ensures { (from < result) × (result ≤ n) × (result ≤ from + longest_run) × (result < n → result ≡ from + longest_run) }
-{
-    if LONGEST_RUN < n - from {
-        return from + LONGEST_RUN;
-    }
-    n
 }
 
 // ---- the stream in byte mode
@@ -93,18 +81,16 @@ fn write_runs(message: &[u8], out: &mut [u8]) -> usize
     ensures { StoredAt (byte_stream message.now) 0 out.old out.new result }
 {
     let mut at = 0;
-    let mut from = 0;
-    while from < message.len() {
-        let to = run_end(from, message.len());
-        at = write_run(out, at, &message[from..to]);
-        from = to;
+    for run in message.chunks(LONGEST_RUN) {
+        at = write_run(out, at, run);
     }
     at
 }
 
-// ---- the stream that is chosen, and its end mark
+// ---- the stream that is chosen, and its end mark. Byte mode is chosen in the first two functions, and nowhere else.
 
 // The bits of the stream that a message is written as.
+#[tactic(auto, unfolding(symbology::specs::Stream::stream_of))]
 pub fn stream_length(message: &[u8]) -> usize
     requires { length message.now < 2 ^ 32 }
     ensures { result ≡ length (stream_of message.now) }
@@ -113,6 +99,7 @@ pub fn stream_length(message: &[u8]) -> usize
 }
 
 // Stores that stream in front of the buffer and answers its length.
+#[tactic(auto, unfolding(symbology::specs::Stream::stream_of))]
 pub fn write_stream(message: &[u8], out: &mut [u8]) -> usize
     requires { length (stream_of message.now) ≤ length out.old }
     ensures { StoredAt (stream_of message.now) 0 out.old out.new result }
@@ -122,14 +109,12 @@ pub fn write_stream(message: &[u8], out: &mut [u8]) -> usize
 
 // Test 6: the stream of a message and its end mark exceed the net bits. A message of more bytes than
 // there are net bits is refused first, so that the length of any other can be worked out.
+#[tactic(auto, using(crate::proofs::Lengths::chosen_bounds))]
 pub fn exceeds_net(message: &[u8], net: usize) -> bool
     requires { net < 2 ^ 32 }
     ensures { result ≡ exceeds (length (stream_of message.now)) net }
 {
-    if net < message.len() {
-        return true;
-    }
-    net < stream_length(message) + 1
+    net < message.len() || net < stream_length(message) + 1
 }
 
 // Stores the net bits of a message: its stream, a 1, then zeros to the end of the buffer.
@@ -139,5 +124,5 @@ pub fn write_net(message: &[u8], net: &mut [u8])
 {
     let end = write_stream(message, net);
     net[end] = 1;
-    lent::clear(net, end + 1, net.len());
+    net[end + 1..].fill(0);
 }

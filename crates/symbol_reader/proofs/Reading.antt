@@ -2,9 +2,11 @@
 -- behind hands on.
 -- Assumes nothing.
 use Prim.Native.Nat.{ℕ, ◌+◌, ◌*◌, ◌≤◌, ◌<◌}
-use mathlib.Core.Path.{◌≡◌, refl, sym, ap, ap₂, ◌∙◌}
+use mathlib.Core.Path.{◌≡◌, refl, sym, ap, ap₂, ◌∙◌, subst⁻¹}
 use mathlib.Core.Bool.{Bool, true, false}
 use mathlib.Core.List.{List, [], ◌∷◌}
+use Rattle.std.specs.Prelude.{Result, Ok, Err, ◌⊎◌}
+use Rattle.std.proofs.Common.{inl, inr}
 use native.Mathlib.Omega.{arith}
 use lib.ListN.{length, take, drop}
 use lib.Seq.{sets}
@@ -18,16 +20,18 @@ use Rattle.symbology.specs.Code.{matrix_for, checks_for, message_bits_for}
 use Rattle.symbology.specs.Placement.{first_bad_module}
 use Rattle.symbology.specs.Symbol.{received_word, wrong_stuffing}
 use Rattle.calls.specs.declared.Counts.{Counts}
-use Rattle.calls.specs.declared.StreamAnswer.{StreamAnswer}
+use Rattle.calls.specs.declared.Refusal.{Refusal}
 use Rattle.calls.specs.declared.ReadAnswer.{ReadAnswer}
-use Rattle.calls.specs.Answers.{counted, refused, from_stream}
-use Rattle.calls.specs.Tests.{first_of, spare_one, bad_module, front_rows, early_rows, is_legal}
+use Rattle.calls.specs.Answers.{StreamAnswer, counted, refused, from_stream, stream_refused, stream_done}
+use Rattle.calls.specs.Refusals.{refusal_number, read_told, stream_told}
+use Rattle.calls.specs.Tests.{first_of, stream_rows, spare_one, bad_module, front_rows, early_rows, is_legal}
 use Rattle.calls.specs.Read.{message_in_accepted, message_in_net, message_in, places_in, front_after, stream_answer}
 use Rattle.calls.specs.Read.{answer_from_accepted, mended_counts, answer_from_received, received_counts, read_answer}
 use Rattle.laws.proofs.Rule.{unmet_few}
-use Rattle.call_laws.proofs.Tests.{first_append, first_hit, first_miss, first_none, first_passed}
+use Rattle.call_laws.proofs.Tests.{Each, first_keeps, first_append, first_hit, first_miss, first_none, first_passed}
 use Rattle.call_laws.proofs.Stages.{accepted_stream, accepted_spare, from_stuck, from_short, from_mended}
 use Rattle.call_laws.proofs.Answers.{refused_front}
+use Rattle.call_laws.proofs.Refusals.{numbered, unplaced}
 use Rattle.lent.specs.declared.Areas.{Areas}
 use Rattle.lent.specs.Changes.{Changed}
 use Rattle.lent.specs.Buffer.{numbers_at}
@@ -53,6 +57,27 @@ refusal_with message places before slice {a = a} some e same =
     let other : a.number ≡ 0 → ⊥ = λ z. some (sym (ap (λ (x : ReadAnswer). x.number) e) ∙ z) in
     record { answered = refusal message before some e same; places_are = sym (refused_front a.number places slice other) }
 
+-- ---- what net bits give
+
+-- what net bits are refused for comes behind the test 7
+stream_late : (net : List ℕ) (room : ℕ) (r : Refusal) → stream_told (Err r) ≡ stream_answer net room → 7 < refusal_number r
+unfolding stream_answer stream_rows Each
+stream_late net room r is =
+    let Q : StreamAnswer → Type 0 = λ a. (a.number ≡ 0) ⊎ (7 < a.number) in
+    let kept : Q (stream_answer net room) =
+    first_keeps stream_refused Q (stream_rows net room) (stream_done (length (message_in_net net)))
+    (λ t. inr (omega arith), (λ t. inr (omega arith), (λ t. inr (omega arith), (λ t. inr (omega arith), tt)))) (λ e. inl refl) in
+    let here : Q (stream_told (Err r)) = subst⁻¹ Q is kept in
+    elim here [ inl z ↦ absurd (numbered r z) | inr h ↦ h ]
+
+-- so what they give is told with the place 0
+placeless : (c : Counts) (net : List ℕ) (room : ℕ) (r : Result ℕ Refusal) → stream_told r ≡ stream_answer net room
+    → read_told c r ≡ from_stream c (stream_told r)
+placeless c net room (Ok n) is = refl
+placeless c net room (Err r) is =
+    let late : 7 < refusal_number r = stream_late net room r is in
+    ap (λ (place : ℕ). counted c (refusal_number r) place) (unplaced r late)
+
 -- ---- from the accepted word
 
 module _ (s : Sizes) (w : List ℕ) (c : Counts) (room : ℕ) (before : List ℕ) where
@@ -64,13 +89,13 @@ module _ (s : Sizes) (w : List ℕ) (c : Counts) (room : ℕ) (before : List ℕ
   spare_one_lem t e = refusal (message_in_accepted s w) before (λ z. omega arith) e (accepted_spare s w c room t)
 
   -- none is
-  pub spare_none : {a : ReadAnswer} {r : StreamAnswer} {after net : List ℕ} → (spare_one s w).test ≡ false
+  pub spare_none : (r : Result ℕ Refusal) {after net : List ℕ} → (spare_one s w).test ≡ false
       → net ≡ take s.net (message_bits_for s w)
-      → NetRead net room before after r
-      → a ≡ from_stream c r
-      → FromAccepted a after
+      → NetRead net room before after (stream_told r)
+      → FromAccepted (read_told c r) after
   unfolding message_in_accepted
-  spare_none {a} {r} t same read e =
+  spare_none r {net = net} t same read =
+      let e : read_told c r ≡ from_stream c (stream_told r) = placeless c net room r read.answer_is in
       record {
         answer_is =
             e
@@ -78,9 +103,16 @@ module _ (s : Sizes) (w : List ℕ) (c : Counts) (room : ℕ) (before : List ℕ
             ∙ sym (accepted_stream s w c room t);
         message_is =
             read.message_is
-            ∙ ap (λ (x : List ℕ). front_after r.number (message_in_net x) before) same
+            ∙ ap (λ (x : List ℕ). front_after (stream_told r).number (message_in_net x) before) same
             ∙ ap (λ (b : ReadAnswer). front_after b.number (message_in_accepted s w) before) (sym e);
       }
+
+-- a refusal, with the places as they came
+pub refused_mended : (c : Counts) (message places : List ℕ) {before after slice : List ℕ} {defined : ReadAnswer} (r : Refusal)
+    → Answered defined message before (read_told c (Err r)) after
+    → AnsweredWithPlaces defined message places before slice (read_told c (Err r)) after slice
+refused_mended c message places {slice = slice} r read =
+    record { answered = read; places_are = sym (refused_front (refusal_number r) places slice (numbered r)) }
 
 -- ---- the message taken from the accepted word
 

@@ -5,7 +5,7 @@
 // 02: 7, then 9 and 16, then 10, then 11 to 14, which are `stream_reader::read_net`. The counts are handed on
 // as one value, in which each stage sets its own; `room` is the length that a message may have, whatever the
 // buffer that it is stored to. The places of the repairs stay in the work buffer until the answer is known,
-// and are stored on 0 alone.
+// and are stored on 0 alone. Parameters, list and sizes are no struct, as in `symbol_writer`.
 #![tactic(auto)]
 
 ghost use Rattle.std.specs.Prelude.{◌≤◌, ◌≡◌, true, [], ◌∷◌, length};
@@ -18,6 +18,8 @@ ghost use Rattle.symbology.specs.Code.{matrix_for, checks_for};
 ghost use Rattle.calls.specs.Tests.{is_legal};
 ghost use Rattle.calls.specs.Read.{answer_from_accepted, answer_from_received, read_answer, message_in_accepted, message_in, places_in};
 ghost use Rattle.calls.specs.Promises.{Reads};
+ghost use Rattle.calls.specs.Refusals.{read_told};
+ghost use Rattle.calls.specs.declared.Counts.{Counts};
 ghost use Rattle.layout.specs.Walk.{SizedSymbol};
 ghost use Rattle.lent.specs.Changes.{Changed};
 ghost use Rattle.lent.specs.Buffer.{numbers_at};
@@ -25,8 +27,9 @@ ghost use Rattle.lent.specs.Work.{rows_span, marks_span, numbers_span, net_span,
 ghost use Rattle.checks.specs.Checks.{HoldsChecks};
 ghost use Rattle.symbol_reader.specs.Stages.{Answered, AnsweredWithPlaces};
 
-use calls::{Counts, ReadAnswer};
+use calls::{Counts, ReadAnswer, Refusal};
 use lent::Areas;
+use mending::Mended;
 use symbology::{Params, Sizes};
 
 // From the accepted word: 10, a spare message column is 1, and what follows. The checks of A are in the
@@ -35,20 +38,19 @@ fn from_accepted(
     s: Sizes,
     a: Areas,
     work: &mut [u8],
-    c: Counts,
     room: usize,
     message: &mut [u8],
-) -> ReadAnswer
+) -> Result<usize, Refusal>
     requires { RoomFor s a (length work.old) × HoldsChecks a (matrix_for s) work.old }
-    ensures { Answered (answer_from_accepted s (word_in a work.old) c room) (message_in_accepted s (word_in a work.old)) message.old result message.new × Changed (rows_span a ∷ marks_span a ∷ numbers_span a ∷ net_span a ∷ []) work.old work.new }
+    ensures told { (c : Counts) → Answered (answer_from_accepted s (word_in a work.old) c room) (message_in_accepted s (word_in a work.old)) message.old (read_told c result) message.new }
+    ensures kept { Changed (rows_span a ∷ marks_span a ∷ numbers_span a ∷ net_span a ∷ []) work.old work.new }
 {
     if coding::take_message(work, a) {
-        return calls::counted(c, 10);
+        return Err(Refusal::SpareOne);
     }
     let at = a.message;
     let end = at + s.net;
-    let read = stream_reader::read_net(&work[at..end], room, message);
-    calls::from_stream(c, read)
+    stream_reader::read_net(&work[at..end], room, message)
 }
 
 // From the accepted word, with the places of the repairs in their area: 10 and what follows. On 0 the places
@@ -57,19 +59,17 @@ fn from_mended(
     s: Sizes,
     a: Areas,
     work: &mut [u8],
-    c: Counts,
+    mended: Mended,
     room: usize,
     message: &mut [u8],
     places: &mut [u16],
-) -> ReadAnswer
-    requires { RoomFor s a (length work.old) × HoldsChecks a (matrix_for s) work.old × (c.repairs ≤ a.checks) × (c.repairs ≤ length places.old) }
-    ensures { AnsweredWithPlaces (answer_from_accepted s (word_in a work.old) c room) (message_in_accepted s (word_in a work.old)) (numbers_at work.old a.repaired c.repairs) message.old places.old result message.new places.new }
+) -> Result<usize, Refusal>
+    requires { RoomFor s a (length work.old) × HoldsChecks a (matrix_for s) work.old × (mended.repairs ≤ a.checks) × (mended.repairs ≤ length places.old) }
+    ensures { (c : Counts) → AnsweredWithPlaces (answer_from_accepted s (word_in a work.old) c room) (message_in_accepted s (word_in a work.old)) (numbers_at work.old a.repaired mended.repairs) message.old places.old (read_told c result) message.new places.new }
 {
-    let answer = from_accepted(s, a, work, c, room, message);
-    if answer.number == 0 {
-        lent::copy_numbers(work, a.repaired, c.repairs, places);
-    }
-    answer
+    let length = from_accepted(s, a, work, room, message)?;
+    lent::copy_numbers(work, a.repaired, mended.repairs, places);
+    Ok(length)
 }
 
 // From the received word: 9, stuck; 16, more repairs than there is room for places; else the read goes on from
@@ -93,12 +93,12 @@ fn from_received(
         stuffing: got.stuffing,
     };
     if mended.stuck {
-        return calls::counted(c, 9);
+        return ReadAnswer::new(c, Err(Refusal::StuckWord));
     }
     if places.len() < mended.repairs {
-        return calls::counted(c, 16);
+        return ReadAnswer::new(c, Err(Refusal::ShortPlaces));
     }
-    from_mended(s, a, work, c, room, message, places)
+    ReadAnswer::new(c, from_mended(s, a, work, mended, room, message, places))
 }
 
 // Stores the C bits of a matrix, the mask and then the interleaving undone.
@@ -115,12 +115,10 @@ fn wrong_stuffing(bits: &[u8]) -> usize
     ensures { result ≡ differing (stuffing (length bits.now)) bits.now }
 {
     let mut wrong = 0;
-    let mut i = 0;
-    while i < bits.len() {
-        if bits[i] as usize != i % 2 {
+    for (i, bit) in bits.iter().enumerate() {
+        if usize::from(*bit) != i % 2 {
             wrong += 1;
         }
-        i += 1;
     }
     wrong
 }
@@ -139,9 +137,8 @@ fn read_uncleared(
     requires { (is_legal p list.now (length matrix.now) (length work.old) ≡ true) × (s ≡ sizes_for p list.now) }
     ensures { AnsweredWithPlaces (read_answer p list.now matrix.now (length work.old) room (length places.old)) (message_in p list.now matrix.now) (places_in p list.now matrix.now) message.old places.old result message.new places.new }
 {
-    let bad = layout::first_bad_module(p.colours, matrix);
-    if bad < matrix.len() {
-        return calls::refused(7, bad);
+    if let Some(bad) = layout::first_bad_module(p.colours, matrix) {
+        return ReadAnswer::from(Refusal::BadModule(bad));
     }
     let a = lent::areas_for(s);
     let at = a.word;

@@ -1,7 +1,8 @@
 // The matrix of a message: what a write does once the tests 1 to 5 are passed. The net bits, the word, the
 // stuffing bits and the interleaving lie in the work buffer one after the other; the matrix is stored last.
 //
-// `jabcode::write` is the way in, and makes the tests before.
+// `jabcode::write` is the way in, and makes the tests before. Parameters, list and sizes are no struct: that the
+// input is legal is a fact of the lengths of the lent buffers too, and would stay in each contract.
 #![tactic(auto)]
 
 ghost use Rattle.std.specs.Prelude.{◌<◌, ◌≡◌, true, length};
@@ -10,12 +11,13 @@ ghost use Rattle.symbology.specs.Stream.{stream_of};
 ghost use Rattle.symbology.specs.Net.{stuffing};
 ghost use Rattle.symbology.specs.Capacity.{sizes_for};
 ghost use Rattle.symbology.specs.Symbol.{written_matrix};
+ghost use Rattle.calls.specs.Refusals.{answer_of};
 ghost use Rattle.calls.specs.Tests.{is_legal};
 ghost use Rattle.calls.specs.Promises.{Writes};
 ghost use Rattle.lent.specs.Work.{Laid, net_in, RoomFor};
 ghost use Rattle.symbol_writer.specs.Writing.{NetStored, BitsPlaced, MatrixWritten};
 
-use calls::Answer;
+use calls::Refusal;
 use lent::Areas;
 use symbology::{Params, Sizes};
 
@@ -33,10 +35,8 @@ fn store_net(message: &[u8], work: &mut [u8], a: Areas)
 fn stuff(out: &mut [u8])
     ensures { out.new ≡ stuffing (length out.old) }
 {
-    let mut i = 0;
-    while i < out.len() {
-        out[i] = (i % 2) as u8;
-        i += 1;
+    for (i, bit) in out.iter_mut().enumerate() {
+        *bit = (i % 2) as u8;
     }
 }
 
@@ -81,15 +81,15 @@ fn write_uncleared(
     matrix: &mut [u8],
     work: &mut [u8],
     s: Sizes,
-) -> Answer
+) -> Result<(), Refusal>
     requires { (is_legal p list.now (length matrix.old) (length work.old) ≡ true) × (s ≡ sizes_for p list.now) }
-    ensures { MatrixWritten p list.now (stream_of message.now) matrix.old (length work.old) result matrix.new }
+    ensures { MatrixWritten p list.now (stream_of message.now) matrix.old (length work.old) (answer_of result) matrix.new }
 {
     if stream_writer::exceeds_net(message, s.net) {
-        return calls::answered(6, 0);
+        return Err(Refusal::NoRoom);
     }
     store_matrix(p, list, message, matrix, work, s);
-    calls::answered(0, 0)
+    Ok(())
 }
 
 // A write of legal input, with the sizes of its symbol. The work buffer is cleared behind it.
@@ -100,11 +100,11 @@ pub fn write_legal(
     matrix: &mut [u8],
     work: &mut [u8],
     s: Sizes,
-) -> Answer
+) -> Result<(), Refusal>
     requires { (is_legal p list.now (length matrix.old) (length work.old) ≡ true) × (s ≡ sizes_for p list.now) }
-    ensures { Writes p list.now (stream_of message.now) matrix.old work.old result matrix.new work.new }
+    ensures { Writes p list.now (stream_of message.now) matrix.old work.old (answer_of result) matrix.new work.new }
 {
-    let answer = write_uncleared(p, list, message, matrix, work, s);
+    let written = write_uncleared(p, list, message, matrix, work, s);
     lent::clear(work, 0, work.len());
-    answer
+    written
 }

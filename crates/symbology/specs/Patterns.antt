@@ -1,21 +1,24 @@
 -- Document 01, "Modules": finder and alignment patterns; 000, 4.3.7 and 4.3.8. Columns x and rows y count from 1.
 -- Assumes nothing.
 use Rattle.std.specs.Prelude.{ℕ, suc, ◌+◌, ◌-◌, ◌%◌, max, Bool, true, false, cond, not, ◌&&◌, ◌||◌, List, [], ◌∷◌, length, leb, eqb}
+use Rattle.std.specs.Prelude.{Option, Some, None, is_some}
 use Rattle.symbology.specs.declared.Params.{Params}
 use Rattle.symbology.specs.declared.Near.{Near}
-use Rattle.symbology.specs.declared.Near.TheVariants.{Apart, Core}
 use Rattle.symbology.specs.declared.PatternColour.{PatternColour}
-use Rattle.symbology.specs.declared.PatternColour.TheVariants.{Outside, Black, Cyan, Yellow}
+use Rattle.symbology.specs.declared.PatternColour.TheVariants.{Black, Cyan, Yellow}
 use Rattle.symbology.specs.declared.Pattern.{Pattern}
 use Rattle.symbology.specs.Sides.{cores_of}
 
--- The first core c with c - 2 ≤ x ≤ c + 2: its number, counted from k, and the offset x + 2 - c. No other core lies so near:
--- those of a side are at least 10 apart.
-unfoldable pub near_core : ℕ → List ℕ → ℕ → Near
-near_core k [] x = Apart
+abbrev near : ℕ → ℕ → Near
+near core offset = record { core = core; offset = offset }
+
+-- The first core c with c - 2 ≤ x ≤ c + 2, if there is one: its number, counted from k, and the offset x + 2 - c. No other core
+-- lies so near: those of a side are at least 10 apart.
+unfoldable pub near_core : ℕ → List ℕ → ℕ → Option Near
+near_core k [] x = None
 near_core k (c ∷ cs) x =
     let later = near_core (suc k) cs x in
-    cond (leb c (x + 2) && leb x (c + 2)) (Core k (x + 2 - c)) later
+    cond (leb c (x + 2) && leb x (c + 2)) (Some (near k (x + 2 - c))) later
 
 -- ---- the patterns
 
@@ -62,29 +65,26 @@ in_squares false o u = leb o 2 && leb 2 u || leb 2 o && leb u 2
 
 -- The colour of a pattern at an offset across and one down. It depends on the larger distance d from the core; at 2 a finder
 -- pattern has its core's colour again.
-unfoldable pub colour_in : Pattern → ℕ → ℕ → PatternColour
+unfoldable pub colour_in : Pattern → ℕ → ℕ → Option PatternColour
 colour_in s o u =
     let d = max (off_core o) (off_core u) in
-    cond (leb d s.reach && in_squares s.falling o u) (cond (eqb d 1) s.ring s.core) Outside
+    cond (leb d s.reach && in_squares s.falling o u) (Some (cond (eqb d 1) s.ring s.core)) None
 
 -- the colour where a column and a row stand so to the cores; s is the pattern at two core numbers
-unfoldable pub meeting : (ℕ → ℕ → Pattern) → Near → Near → PatternColour
-meeting s Apart v = Outside
-meeting s (Core i o) Apart = Outside
-meeting s (Core i o) (Core j u) = colour_in (s i j) o u
+unfoldable pub meeting : (ℕ → ℕ → Pattern) → Option Near → Option Near → Option PatternColour
+meeting s None down = None
+meeting s (Some across) None = None
+meeting s (Some across) (Some down) = colour_in (s across.core down.core) across.offset down.offset
 
 -- the pattern colour of the module at column x, row y of a symbol with side-versions h and v
-unfoldable pub pattern_at : ℕ → ℕ → ℕ → ℕ → ℕ → ℕ → PatternColour
+unfoldable pub pattern_at : ℕ → ℕ → ℕ → ℕ → ℕ → ℕ → Option PatternColour
 pattern_at kind turn h v x y =
     meeting (pattern_of kind turn (length (cores_of h)) (length (cores_of v))) (near_core 0 (cores_of h) x) (near_core 0 (cores_of v) y)
 
 -- a pattern covers the module
-unfoldable pub covered : PatternColour → Bool
-covered Outside = false
-covered Black = true
-covered Cyan = true
-covered Yellow = true
+unfoldable pub covered : Option PatternColour → Bool
+covered colour = is_some colour
 
 -- the pattern colour at a module of a symbol with these parameters
-unfoldable pub pattern_colour : Params → ℕ → ℕ → PatternColour
+unfoldable pub pattern_colour : Params → ℕ → ℕ → Option PatternColour
 pattern_colour p x y = pattern_at p.kind p.turn p.horizontal p.vertical x y

@@ -2,12 +2,11 @@
 -- columns x and rows y count from 1, as in 000; elsewhere columns and rows count from 0.
 -- Assumes nothing.
 use Rattle.std.specs.Prelude.{ℕ, ◌+◌, ◌*◌, ◌/◌, ◌%◌, Bool, true, false, cond, List, [], ◌∷◌, length, get_or, take, drop, leb, ltb}
+use Rattle.std.specs.Prelude.{Option, Some, None}
 use Rattle.std.specs.Int.Bits.{bit_xor}
 use Rattle.symbology.specs.declared.Params.{Params}
 use Rattle.symbology.specs.declared.PatternColour.{PatternColour}
-use Rattle.symbology.specs.declared.PatternColour.TheVariants.{Outside, Black, Cyan, Yellow}
-use Rattle.symbology.specs.declared.Cell.{Cell}
-use Rattle.symbology.specs.declared.Cell.TheVariants.{Data, Fixed}
+use Rattle.symbology.specs.declared.PatternColour.TheVariants.{Black, Cyan, Yellow}
 use Rattle.symbology.specs.Ranges.{tally, sum_from, join_from, tabulate, lowest}
 use Rattle.symbology.specs.Bits.{value, bits}
 use Rattle.symbology.specs.Sides.{columns, rows}
@@ -15,28 +14,32 @@ use Rattle.symbology.specs.Patterns.{pattern_colour}
 use Rattle.symbology.specs.Reserved.{entries, entry_colour, first_entry}
 use Rattle.symbology.specs.Capacity.{bits_per_module}
 
--- ---- what each module holds
+-- ---- what each module holds: the colour index that pattern or list fix, none in a data module
+
+-- the colour index of a pattern's colour
+abbrev pub colour_index : Params → PatternColour → ℕ
+colour_index p Black = p.black
+colour_index p Cyan = p.cyan
+colour_index p Yellow = p.yellow
 
 -- the cell of a module that no list entry names, by its pattern colour
-unfoldable pub pattern_cell : Params → PatternColour → Cell
-pattern_cell p Outside = Data
-pattern_cell p Black = Fixed p.black
-pattern_cell p Cyan = Fixed p.cyan
-pattern_cell p Yellow = Fixed p.yellow
+unfoldable pub pattern_cell : Params → Option PatternColour → Option ℕ
+pattern_cell p None = None
+pattern_cell p (Some colour) = Some (colour_index p colour)
 
 -- the cell at column x, row y: an entry's colour, else a pattern's colour, else data
-unfoldable pub cell_of : Params → List ℕ → ℕ → ℕ → Cell
+unfoldable pub cell_of : Params → List ℕ → ℕ → ℕ → Option ℕ
 cell_of p l x y =
     let k = first_entry l (entries l) x y in
-    cond (ltb k (entries l)) (Fixed (entry_colour l k)) (pattern_cell p (pattern_colour p x y))
+    cond (ltb k (entries l)) (Some (entry_colour l k)) (pattern_cell p (pattern_colour p x y))
 
 -- the module is a data module
-unfoldable pub is_data : Cell → Bool
-is_data Data = true
-is_data (Fixed v) = false
+unfoldable pub is_data : Option ℕ → Bool
+is_data None = true
+is_data (Some v) = false
 
 -- the cell of the module (c, r)
-abbrev pub cell_at : Params → List ℕ → ℕ → ℕ → Cell
+abbrev pub cell_at : Params → List ℕ → ℕ → ℕ → Option ℕ
 cell_at p l c r = cell_of p l (c + 1) (r + 1)
 
 -- the data modules among the first n rows of column c
@@ -79,9 +82,9 @@ unfoldable pub data_module : Params → List ℕ → List ℕ → ℕ → ℕ �
 data_module p l bs c r = bit_xor (unmasked_index p l bs c r) (mask_at p.mask p.colours c r)
 
 -- what a cell holds: v in a data module, else its own colour index
-unfoldable pub on_cell : Cell → ℕ → ℕ
-on_cell Data v = v
-on_cell (Fixed f) v = f
+unfoldable pub on_cell : Option ℕ → ℕ → ℕ
+on_cell None v = v
+on_cell (Some f) v = f
 
 -- the colour index of the module (c, r) of a symbol whose data modules hold the bits
 unfoldable pub module_at : Params → List ℕ → List ℕ → ℕ → ℕ → ℕ
@@ -113,9 +116,9 @@ masked p l mask matrix =
 -- ---- sampling
 
 -- what is no data module gives no bits
-unfoldable pub cell_bits : Cell → List ℕ → List ℕ
-cell_bits Data bs = bs
-cell_bits (Fixed v) bs = []
+unfoldable pub cell_bits : Option ℕ → List ℕ → List ℕ
+cell_bits None bs = bs
+cell_bits (Some v) bs = []
 
 -- the bits of the module (c, r) of a matrix, the mask undone
 unfoldable pub bits_at : Params → List ℕ → List ℕ → ℕ → ℕ → List ℕ

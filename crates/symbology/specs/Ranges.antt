@@ -1,6 +1,7 @@
 -- Tests, sums, searches and lists over ranges of numbers: the tools of the other definitions.
 -- Assumes nothing.
-use Rattle.std.specs.Prelude.{ℕ, zero, suc, ◌+◌, Bool, true, false, cond, ◌&&◌, ◌||◌, List, [], ◌∷◌, ◌++◌, leb, eqb}
+use Rattle.std.specs.Prelude.{ℕ, zero, suc, ◌+◌, Bool, true, false, cond, ◌&&◌, ◌||◌, List, [], ◌∷◌, ◌++◌, leb, ltb, eqb}
+use Rattle.std.specs.Prelude.{Option, Some, None}
 
 -- low ≤ n ≤ high
 abbrev pub within : ℕ → ℕ → ℕ → Bool
@@ -46,6 +47,10 @@ lowest f zero j = j
 lowest f (suc n) j =
     let later = lowest f n (suc j) in
     cond (f j) j later
+
+-- what a search among the numbers below n found, where its answer is n if it found none
+abbrev pub found : ℕ → ℕ → Option ℕ
+found n k = cond (ltb k n) (Some k) None
 
 -- the number stands in the list
 unfoldable pub has : ℕ → List ℕ → Bool

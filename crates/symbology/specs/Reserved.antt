@@ -1,10 +1,8 @@
 -- Document 01, "What the library takes in hand": the reserved list, three numbers to an entry (column, row, colour index), and
 -- "Numbers returned": what makes it bad, and the place of its first fault. Columns and rows count from 1, entries from 0.
 -- Assumes nothing.
-use Rattle.std.specs.Prelude.{ℕ, ◌+◌, ◌*◌, ◌/◌, ◌%◌, Bool, cond, not, ◌&&◌, ◌||◌, List, length, get_or, leb, ltb, eqb}
+use Rattle.std.specs.Prelude.{ℕ, ◌+◌, ◌*◌, ◌/◌, ◌%◌, Bool, cond, not, ◌&&◌, ◌||◌, List, length, get_or, leb, ltb, eqb, Result, Ok, Err}
 use Rattle.symbology.specs.declared.Params.{Params}
-use Rattle.symbology.specs.declared.ListVerdict.{ListVerdict}
-use Rattle.symbology.specs.declared.ListVerdict.TheVariants.{Sound, Fault}
 use Rattle.symbology.specs.Ranges.{within, lowest}
 use Rattle.symbology.specs.Sides.{columns, rows}
 use Rattle.symbology.specs.Patterns.{pattern_colour, covered}
@@ -46,24 +44,24 @@ bad_entry p l k x y colour =
 unfoldable pub bad_at : Params → List ℕ → ℕ → Bool
 bad_at p l k = bad_entry p l k (entry_column l k) (entry_row l k) (entry_colour l k)
 
--- the verdict on n entries, where `place` is that of the first bad one, or n where none is bad
-unfoldable pub entry_verdict : ℕ → ℕ → ListVerdict
-entry_verdict place n = cond (ltb place n) (Fault place) Sound
+-- the verdict on n entries, Ok or the place of the first fault, where `place` is that of the first bad one, or n where none is bad
+unfoldable pub entry_verdict : ℕ → ℕ → Result (Unit {0}) ℕ
+entry_verdict place n = cond (ltb place n) (Err place) (Ok tt)
 
 -- The list's verdict: a length that is no multiple of three, at the number of whole entries; more than 1,024 entries, at 1,024;
 -- then the first bad entry.
-unfoldable pub list_verdict : Params → List ℕ → ListVerdict
+unfoldable pub list_verdict : Params → List ℕ → Result (Unit {0}) ℕ
 list_verdict p l =
     cond (eqb (length l % 3) 0)
-    (cond (leb (entries l) 1024) (entry_verdict (lowest (bad_at p l) (entries l) 0) (entries l)) (Fault 1024))
-    (Fault (entries l))
+    (cond (leb (entries l) 1024) (entry_verdict (lowest (bad_at p l) (entries l) 0) (entries l)) (Err 1024))
+    (Err (entries l))
 
--- document 01's number for each case of the enum
-unfoldable pub list_number : ListVerdict → ℕ
-list_number Sound = 0
-list_number (Fault place) = 2
+-- document 01's number for each verdict
+unfoldable pub list_number : Result (Unit {0}) ℕ → ℕ
+list_number (Ok sound) = 0
+list_number (Err place) = 2
 
--- document 01's place for each case
-unfoldable pub list_place : ListVerdict → ℕ
-list_place Sound = 0
-list_place (Fault place) = place
+-- document 01's place for each verdict
+unfoldable pub list_place : Result (Unit {0}) ℕ → ℕ
+list_place (Ok sound) = 0
+list_place (Err place) = place

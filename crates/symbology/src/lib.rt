@@ -1,11 +1,11 @@
 // The types of a symbol, and in specs/ every definition that a symbol is held to: layout, code, streams.
 // The definitions of the calls stand in `calls`, and what lower functions keep or ask for in the specs/ of
-// their crates. This crate has no functions: it is what a reader must believe.
+// their crates. This crate has no functions but those of the derives: it is what a reader must believe.
 #![tactic(auto)]
 
 // What a caller chooses for one symbol, in document 01's order. Any number may stand in any field:
 // the calls refuse what is outside document 01's ranges.
-#[derive(Clone, Copy)]
+#[derive(Clone, Copy, PartialEq, Eq)]
 pub struct Params {
     pub kind: u32,
     pub horizontal: u32,
@@ -22,16 +22,16 @@ pub struct Params {
 
 // A count of modules and a count of bits. They are never added: the one way from the first to the
 // second is the bits per module.
-#[derive(Clone, Copy)]
+#[derive(Clone, Copy, PartialEq, Eq)]
 pub struct Modules(pub u32);
 
-#[derive(Clone, Copy)]
+#[derive(Clone, Copy, PartialEq, Eq)]
 pub struct Bits(pub u32);
 
 // What follows from the parameters and the number of list entries. `depth` is the bits per module,
 // `block` the rows of A in one block (document 01's t), `gross`, `checks` and `net` are Pg, K and
 // Pn, and `work` is the number of bytes that test 5 asks for.
-#[derive(Clone, Copy)]
+#[derive(Clone, Copy, PartialEq, Eq)]
 pub struct Sizes {
     pub columns: usize,
     pub rows: usize,
@@ -45,18 +45,17 @@ pub struct Sizes {
     pub work: usize,
 }
 
-// How a coordinate stands to the core coordinates of its side: more than two modules from each, or
-// near core number i (from 0) at offset o, where 2 is on the core and 0 to 4 are all there is.
-#[derive(Clone, Copy)]
-pub enum Near {
-    Apart,
-    Core(usize, usize),
+// A core coordinate at most two modules from a coordinate of its side: its core number, from 0, and the
+// offset from two modules before it, which is 2 on the core and 0 to 4 at all.
+#[derive(Clone, Copy, PartialEq, Eq)]
+pub struct Near {
+    pub core: usize,
+    pub offset: usize,
 }
 
-// The colour that a pattern gives a module, or none.
-#[derive(Clone, Copy)]
+// The colour that a pattern gives a module.
+#[derive(Clone, Copy, PartialEq, Eq)]
 pub enum PatternColour {
-    Outside,
     Black,
     Cyan,
     Yellow,
@@ -65,7 +64,7 @@ pub enum PatternColour {
 // A finder or alignment pattern: how far it reaches from its core, whether its squares lie upper
 // left and lower right of the core, its core's colour, which a finder pattern has again at distance
 // 2, and that of the ring at distance 1.
-#[derive(Clone, Copy)]
+#[derive(Clone, Copy, PartialEq, Eq)]
 pub struct Pattern {
     pub reach: usize,
     pub falling: bool,
@@ -73,22 +72,8 @@ pub struct Pattern {
     pub ring: PatternColour,
 }
 
-// What a module holds: data, or a colour index that pattern or list fix.
-#[derive(Clone, Copy)]
-pub enum Cell {
-    Data,
-    Fixed(u8),
-}
-
-// The reserved list's verdict: sound, or the place of its first fault.
-#[derive(Clone, Copy)]
-pub enum ListVerdict {
-    Sound,
-    Fault(usize),
-}
-
 // The modes of 002, 4.3, that a reader stays in until the next latch.
-#[derive(Clone, Copy)]
+#[derive(Clone, Copy, PartialEq, Eq)]
 pub enum Mode {
     Upper,
     Lower,
@@ -99,7 +84,7 @@ pub enum Mode {
 // What the next code of a stream is: one of the latched mode, the one character after a shift to
 // punctuation, mixed or uppercase mode, the two bits that extend a mode switch, the short or the
 // long count of a byte run, or a byte with so many more behind it.
-#[derive(Clone, Copy)]
+#[derive(Clone, Copy, PartialEq, Eq)]
 pub enum Expected {
     Latched,
     Punctuation,
@@ -112,7 +97,7 @@ pub enum Expected {
 }
 
 // What a code does to the mode: the next mode and code, or the end of the stream's reading.
-#[derive(Clone, Copy)]
+#[derive(Clone, Copy, PartialEq, Eq)]
 pub enum ModeAnswer {
     Next(Mode, Expected),
     EndOfMessage,

@@ -3,9 +3,14 @@
 use Prim.Native.Nat.{ℕ, zero, suc, ◌+◌, ◌≤◌, ◌<◌}
 use mathlib.Core.Path.{◌≡◌, refl, sym, ap₂, ◌∙◌}
 use mathlib.Core.List.{List, [], ◌∷◌}
+use native.Mathlib.Decide.{ℕ_discrete}
 use native.Mathlib.Numerals.{add-one}
 use native.Mathlib.Omega.{arith}
 use lib.ListN.{length, get_or, set}
+use Rattle.std.proofs.Common.{nat_eq, count_by, take, drop, eq-eqb, length-drop}
+use Rattle.std.proofs.lemmas.List.{get_or-drop}
+use Rattle.std.proofs.lemmas.List.Sums.{count_by_more_yes, count_by_more_no}
+use borrow.Author.Tests.{ne_eqb}
 use Rattle.symbology.specs.Ranges.{tabulate}
 use Rattle.symbology.specs.Matrix.{check_of, checks_of}
 use Rattle.symbology.specs.Rule.{unmet, unmet_count}
@@ -14,8 +19,9 @@ use Rattle.laws.proofs.Stores.{store_next}
 use Rattle.lent.specs.declared.Areas.{Areas}
 use Rattle.lent.specs.Changes.{Span, Outside, Changed}
 use Rattle.lent.specs.Work.{word_row_span, marks_span, Laid, word_in}
-use Rattle.lent.proofs.Changes.{changed_none, changed_wider, changed_then, changed_set}
-use Rattle.lent.proofs.Work.{word_kept}
+use Rattle.lent.specs.Buffer.{part}
+use Rattle.lent.proofs.Changes.{changed_wider, changed_then, changed_set}
+use Rattle.lent.proofs.Work.{word_kept, marks_inside}
 use Rattle.checks.specs.Checks.{stands_in, checks_in, unmet_in, WordStaged}
 use Rattle.checks.proofs.Checks.{ChecksOutside, checks_kept, unmet_kept}
 use Rattle.syndrome.specs.Syndrome.{mark_of, MarkBits, Marked, MarksSet, Judged}
@@ -27,10 +33,6 @@ pub record MarkedTo (a : Areas) (i : ℕ) (before after : List ℕ) : Type 0 whe
   pub most : i ≤ a.checks
   pub changed : Changed (marks_span a ∷ []) before after
   pub done : (p : ℕ) → p < i → mark_of a after p ≡ unmet_in a before p
-
-pub marked_start : (a : Areas) (work : List ℕ) → MarkedTo a 0 work work
-marked_start a work =
-    record { most = omega arith; changed = changed_none (marks_span a ∷ []) work; done = λ p h. absurd (omega arith) }
 
 module _ {a : Areas} {i : ℕ} {before after : List ℕ} (laid : Laid a (length before)) (m : MarkedTo a i before after) where
   -- whether a check is unmet stays while marks are set
@@ -60,52 +62,44 @@ pub marked_kept : {a : Areas} {ss : List Span} {before after : List ℕ} → Lai
 marked_kept {a} laid c checks marks word marked i h =
     c.kept (a.marks + i) (marks (a.marks + i) (omega arith) (omega arith)) ∙ marked i h ∙ sym (unmet_kept laid c checks word i h)
 
--- ---- the unmet checks as a loop counts them
-
--- the first i marks, added
-unfoldable pub mark_sum : List ℕ → ℕ → ℕ → ℕ
-mark_sum work marks zero = 0
-mark_sum work marks (suc i) = mark_sum work marks i + get_or work (marks + i) 0
-
--- the first i of k marks are added
-pub record Summed (work : List ℕ) (k marks n i : ℕ) : Type 0 where
-  pub most : i ≤ k
-  pub few : n ≤ i
-  pub sum : n ≡ mark_sum work marks i
-
-pub summed_start : (work : List ℕ) (k marks : ℕ) → Summed work k marks 0 0
-unfolding mark_sum
-summed_start work k marks = record { most = omega arith; few = omega arith; sum = refl }
-
-pub summed_next : {work : List ℕ} {k marks n i : ℕ} → Summed work k marks n i → i < k → get_or work (marks + i) 0 ≤ 1
-    → Summed work k marks (n + get_or work (marks + i) 0) (i + 1)
-unfolding mark_sum
-summed_next {work} {k} {marks} {n} {i} s l b =
-    record { most = omega arith; few = omega (arith, s.few); sum = rw (add-one i) (omega (arith, s.sum)) }
+-- ---- the unmet checks, counted by their marks
 
 -- A check is unmet or met.
 unmet_bit : (c w : List ℕ) → unmet c w ≤ 1
 unfolding unmet
 unmet_bit c w = omega arith
 
+-- one more bit of a list, counted where it is 1
+ones_more : (xs : List ℕ) (i : ℕ) → i < length xs → get_or xs i 0 ≤ 1
+    → count_by (λ x. nat_eq x 1) (take (suc i) xs) ≡ count_by (λ x. nat_eq x 1) (take i xs) + get_or xs i 0
+ones_more xs i h bit =
+    elim (ℕ_discrete (get_or xs i 0) 1) [
+      | yes e ↦ rw (← add-one i, e) (count_by_more_yes (λ x. nat_eq x 1) xs i 0 h (eq-eqb (get_or xs i 0) 1 e))
+      | no e ↦ rw (← add-one i) (omega (arith, count_by_more_no (λ x. nat_eq x 1) xs i 0 h (ne_eqb (get_or xs i 0) 1 e)))
+    ]
+
 module _ (a : Areas) (work : List ℕ) (marked : Marked a work) where
   -- Each mark is 0 or 1.
   pub mark_bits : MarkBits a work
   mark_bits i h = omega (arith, marked i h, unmet_bit (check_of a.gross (stands_in a work) i) (word_in a work))
 
-  count_to : (i : ℕ) → i ≤ a.checks
-      → mark_sum work a.marks i ≡ unmet_count (checks_of i a.gross (stands_in a work)) (word_in a work)
-  unfolding mark_sum checks_of tabulate unmet_count
-  count_to zero h = refl
-  count_to (suc i) h =
+  ones_to : Laid a (length work) → (i : ℕ) → i ≤ a.checks
+      → count_by (λ x. nat_eq x 1) (part work a.marks i) ≡ unmet_count (checks_of i a.gross (stands_in a work)) (word_in a work)
+  unfolding checks_of tabulate unmet_count
+  ones_to laid zero h = refl
+  ones_to laid (suc i) h =
       let c : List ℕ = check_of a.gross (stands_in a work) i in
       let cs : List (List ℕ) = tabulate i (check_of a.gross (stands_in a work)) in
-      ap₂ ◌+◌ (count_to i (omega arith)) (marked i (omega arith)) ∙ sym (unmet_count_snoc cs c (word_in a work))
+      let mark : get_or (drop a.marks work) i 0 ≡ mark_of a work i = get_or-drop a.marks work i 0 in
+      ones_more (drop a.marks work) i (omega (arith, length-drop a.marks work, marks_inside laid))
+      (omega (arith, mark, mark_bits i (omega arith)))
+      ∙ ap₂ ◌+◌ (ones_to laid i (omega arith)) (mark ∙ marked i (omega arith))
+      ∙ sym (unmet_count_snoc cs c (word_in a work))
 
-  -- All marks added are the unmet count.
-  pub summed_all : {n i : ℕ} → Summed work a.checks a.marks n i → i ≡ a.checks
-      → n ≡ unmet_count (checks_in a work) (word_in a work)
-  summed_all s e = rw e at s.sum ∙ count_to a.checks (omega arith)
+  -- The marks that are 1 are as many as the unmet checks.
+  pub ones_are : Laid a (length work)
+      → count_by (λ x. nat_eq x 1) (part work a.marks a.checks) ≡ unmet_count (checks_in a work) (word_in a work)
+  ones_are laid = ones_to laid a.checks (omega arith)
 
 -- ---- the word judged
 

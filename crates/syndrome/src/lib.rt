@@ -15,11 +15,8 @@ fn set_marks(work: &mut [u8], a: Areas)
     requires { Laid a (length work.old) × Staged a work.old }
     ensures { MarksSet a work.old work.new }
 {
-    let mut i = 0;
-    while i < a.checks {
-        let unmet = checks::unmet_of(work, a, i);
-        work[a.marks + i] = unmet;
-        i += 1;
+    for i in 0..a.checks {
+        work[a.marks + i] = checks::unmet_of(work, a, i);
     }
 }
 
@@ -28,15 +25,10 @@ pub fn count_unmet(work: &[u8], a: Areas) -> usize
     requires { Laid a (length work.now) × Marked a work.now }
     ensures { result ≡ unmet_count (checks_in a work.now) (word_in a work.now) }
 {
-    let k = a.checks;
-    let marks = a.marks;
-    let mut n = 0;
-    let mut i = 0;
-    while i < k {
-        n += work[marks + i] as usize;
-        i += 1;
-    }
-    n
+    work[a.marks..a.marks + a.checks]
+        .iter()
+        .filter(|&&mark| mark == 1)
+        .count()
 }
 
 // Marks each check of the word, and answers how many are unmet.

@@ -6,17 +6,27 @@
 // ask for what those have tested.
 #![tactic(auto)]
 
-ghost use Rattle.std.specs.Prelude.{◌-◌, ◌≤◌, ◌<◌, ◌≡◌};
+ghost use Rattle.std.specs.Prelude.{◌≤◌, ◌<◌, ◌≡◌, take};
 ghost use Rattle.symbology.specs.Sides.{side_size, cores_of, inner_patterns};
 ghost use Rattle.tables.specs.Rows.{core_row, published_counts, formula_counts};
 
 use symbology::{Bits, Modules};
 
-// A row of Table 2: the core coordinates of one side-version, `len` of them, then zeros.
+// A row of Table 2: the core coordinates of one side-version, `len` of them, then zeros. The first user asked for one
+// constant table of short rows with their lengths, so a row keeps its length beside an array.
 #[derive(Clone, Copy)]
 pub struct CoreRow {
     pub len: u8,
     pub at: [u8; 9],
+}
+
+impl CoreRow {
+    // The coordinates alone; a row has no more than nine.
+    pub fn cores(&self) -> &[u8]
+        ensures { result.now ≡ take self.now.len self.now.at }
+    {
+        &self.at[..usize::from(self.len).min(9)]
+    }
 }
 
 const TABLE_2: [CoreRow; 32] = [
@@ -150,31 +160,15 @@ const TABLE_2: [CoreRow; 32] = [
     },
 ];
 
-// A side-version's row of Table 2, rows counted from 0, and row 0 for 0 as in the definition.
-fn row_of(version: usize) -> usize
-    ensures { result ≡ version - 1 }
-{
-    if version == 0 {
-        return 0;
-    }
-    version - 1
-}
-
-// The core coordinates of a side-version; past 32 there are none.
+// The core coordinates of a side-version: those of 1 for 0, as in the definition, and none past 32.
 pub fn core_row(version: usize) -> CoreRow
     ensures { result ≡ core_row (cores_of version) }
 {
-    let row = row_of(version);
-    if row < 32 {
+    let row = version.saturating_sub(1);
+    if row < TABLE_2.len() {
         return TABLE_2[row];
     }
     CoreRow { len: 0, at: [0; 9] }
-}
-
-fn wide(b: u8) -> usize
-    ensures { result ≡ b }
-{
-    b as usize
 }
 
 // The modules along a side of a side-version.
@@ -191,7 +185,7 @@ pub fn inner_patterns(horizontal: usize, vertical: usize) -> usize
 {
     let across = core_row(horizontal);
     let down = core_row(vertical);
-    wide(across.len) * wide(down.len) - 4
+    across.cores().len() * down.cores().len() - 4
 }
 
 // Table 1 as published. Each row has the data modules of the square symbols of one side-version,

@@ -3,8 +3,7 @@
 // called what every caller knows, which is their contracts.
 #![tactic(auto)]
 
-ghost use Rattle.std.specs.Prelude.{◌*◌, ◌≤◌, ◌≡◌, true, length};
-ghost use Rattle.symbology.specs.declared.ListVerdict.TheVariants.{Sound};
+ghost use Rattle.std.specs.Prelude.{◌*◌, ◌≤◌, ◌≡◌, true, length, Ok};
 ghost use Rattle.symbology.specs.Bits.{AllBits, bitwise_sum};
 ghost use Rattle.symbology.specs.Parameters.{in_range};
 ghost use Rattle.symbology.specs.Sides.{columns, rows};
@@ -51,7 +50,7 @@ pub fn shuffle_sum(x: &mut [u8], y: &mut [u8], sum: &mut [u8], state: u64)
 // What is filled with a mask, masked once more with it, is the filling of the same bits without a mask. The
 // tests 1 and 2 are passed, there are C bits, and the matrix has the symbol's length.
 pub fn fill_masked(p: Params, list: &[u16], bits: &[u8], matrix: &mut [u8])
-    requires { (in_range p ≡ true) × (list_verdict p list.now ≡ Sound) × (length bits.now ≡ (sizes_for p list.now).capacity) × (length matrix.old ≡ rows p * columns p) }
+    requires { (in_range p ≡ true) × (list_verdict p list.now ≡ Ok tt) × (length bits.now ≡ (sizes_for p list.now).capacity) × (length matrix.old ≡ rows p * columns p) }
     ensures { masked p list.now p.mask matrix.new ≡ unmasked p list.now bits.now }
 {
     layout::fill(p, list, bits, matrix);

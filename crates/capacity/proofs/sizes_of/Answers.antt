@@ -1,14 +1,13 @@
 -- `capacity::sizes_of` meets its contract. Assumes nothing.
-use Prim.Native.Nat.{◌*◌, ◌≤◌, ◌<◌}
-use mathlib.Core.Path.{◌≡◌, ap, ◌∙◌}
+use Prim.Native.Nat.{◌*◌, ◌/◌, ◌≤◌}
+use mathlib.Core.Path.{◌≡◌, ap}
 use native.Mathlib.Omega.{arith}
 use Rattle.symbology.specs.declared.Bits.{Bits}
-use Rattle.symbology.specs.Capacity.{as_bits}
+use Rattle.symbology.specs.Capacity.{as_bits, capacity, row_bytes, sizes_of}
 use Rattle.laws.proofs.Parameters.{InRange, ranges, depth_some}
-use Rattle.capacity.proofs.Bounds.{bits_most, Products, products_most}
-use Rattle.capacity.proofs.Counts.{capacity_of, sizes_are}
+use Rattle.capacity.proofs.Bounds.{bits_most, matrix_most}
 use Rattle.capacity.proofs.sizes_of.Goals as goal
-use Rattle.capacity.proofs.sizes_of.Goals.{After-bits_per_module-depth, After-wide-c, After-wide-wc, Start}
+use Rattle.capacity.proofs.sizes_of.Goals.{After-bits_per_module-depth, After-as_bits-bits, After-div_ceil, Start}
 
 -- each parameter is in its range
 known : (c : Start) → InRange c.args.p
@@ -23,65 +22,36 @@ depth_most c =
 pub as_bits-bits-requires : goal.as_bits-bits-requires
 as_bits-bits-requires c = (c.data_modules.ensures.1, depth_most (goal.at.as_bits-bits-requires c).After-bits_per_module-depth)
 
--- C is small
-c_most : (c : After-wide-c) → c.wide-c.result ≤ 63075
+-- the bytes of a row of A
+row_bytes_are : (c : After-div_ceil) → c.div_ceil.result ≡ row_bytes (c.as_bits-bits.result.0 / c.args.p.wr * c.args.p.wr)
+row_bytes_are c = omega (arith, c.div_ceil.ensures)
+
+-- the bytes of A are few
+matrix_few : (c : After-div_ceil) → c.as_bits-bits.result.0 / c.args.p.wr * c.args.p.wc * c.div_ceil.result ≤ 497346375
 unfolding as_bits
-c_most c =
+matrix_few c =
+    let p = c.args.p in
     let m = c.data_modules in
     let d = c.bits_per_module-depth in
-    let most = bits_most m.result.0 d.result m.ensures.1 (depth_most (goal.at.After-wide-c c).After-bits_per_module-depth) in
-    let same : c.wide-c.result ≡ m.result.0 * d.result = c.wide-c.ensures ∙ ap (λ (b : Bits). b.0) c.as_bits-bits.ensures in
-    omega arith
-
--- wc is less than wr
-wc_less : (c : After-wide-wc) → c.wide-wc.result < c.wide-wr.result
-wc_less c = omega (arith, known (goal.at.After-wide-wc c).Start, c.wide-wc.ensures, c.wide-wr.ensures)
-
--- the products of C, wr and wc are small
-products : (c : After-wide-wc) → Products c.wide-c.result c.wide-wc.result c.wide-wr.result
-products c =
-    products_most c.wide-c.result c.wide-wc.result c.wide-wr.result (c_most (goal.at.After-wide-wc c).After-wide-c) (wc_less c)
+    let most = bits_most m.result.0 d.result m.ensures.1 (depth_most (goal.at.After-div_ceil c).After-bits_per_module-depth) in
+    let same : c.as_bits-bits.result.0 ≡ m.result.0 * d.result = ap (λ (b : Bits). b.0) c.as_bits-bits.ensures in
+    rw (row_bytes_are c)
+    (matrix_most c.as_bits-bits.result.0 p.wc p.wr (omega arith) (known (goal.at.After-div_ceil c).Start).wc_below)
 
 pub nonzero_div-block : goal.nonzero_div-block
-nonzero_div-block c = omega (arith, known (goal.at.nonzero_div-block c).Start, c.wide-wr.ensures)
-
-pub overflow_mul-gross : goal.overflow_mul-gross
-overflow_mul-gross c = omega (arith, (products c).gross)
-
-pub overflow_mul-checks : goal.overflow_mul-checks
-overflow_mul-checks c = omega (arith, (products c).checks)
+nonzero_div-block c = omega (arith, known (goal.at.nonzero_div-block c).Start)
 
 pub overflow_sub-result : goal.overflow_sub-result
-overflow_sub-result c = omega (arith, wc_less (goal.at.overflow_sub-result c).After-wide-wc)
-
-pub overflow_mul-result : goal.overflow_mul-result
-overflow_mul-result c = omega (arith, (products (goal.at.overflow_mul-result c).After-wide-wc).net)
-
-pub overflow_add-result : goal.overflow_add-result
-overflow_add-result c = omega (arith, (products (goal.at.overflow_add-result c).After-wide-wc).gross)
+overflow_sub-result c = omega (arith, known (goal.at.overflow_sub-result c).Start)
 
 pub overflow_mul-result-2 : goal.overflow_mul-result-2
-overflow_mul-result-2 c = omega (arith, (products (goal.at.overflow_mul-result-2 c).After-wide-wc).matrix)
+overflow_mul-result-2 c = omega (arith, matrix_few (goal.at.overflow_mul-result-2 c).After-div_ceil)
 
-pub overflow_add-result-2 : goal.overflow_add-result-2
-overflow_add-result-2 c =
-    omega (arith, (products (goal.at.overflow_add-result-2 c).After-wide-wc).matrix, c_most (goal.at.overflow_add-result-2 c).After-wide-c)
+pub overflow_add-result : goal.overflow_add-result
+overflow_add-result c = omega (arith, matrix_few (goal.at.overflow_add-result c).After-div_ceil)
 
 pub returns : goal.returns
+unfolding capacity sizes_of
 returns c =
-    let n = c.wide-c in
-    let b = c.as_bits-bits in
-    let m = c.data_modules in
-    let d = c.bits_per_module-depth in
-    let a = c.args in
-    let wr = c.wide-wr in
-    let wc = c.wide-wc in
-    let across = c.side_size in
-    let down = c.side_size-2 in
-    sizes_are a.p a.listed across.result down.result c.wide.result n.result wc.result wr.result
-    across.ensures
-    down.ensures
-    (c.wide.ensures ∙ d.ensures)
-    (capacity_of a.p a.listed m.result d.result b.result n.result m.ensures.0 d.ensures b.ensures n.ensures)
-    wc.ensures
-    wr.ensures
+    let row = row_bytes_are c in
+    cc

@@ -1,14 +1,16 @@
 -- `characters::mixed_bytes` meets its contract. Assumes nothing.
-use mathlib.Core.Path.{refl, ap, ◌∙◌}
+use Prim.Native.Nat.{◌≤◌}
+use mathlib.Core.Path.{refl, ◌∙◌}
+use native.Mathlib.Omega.{arith}
 use Rattle.symbology.specs.Characters.{mixed_characters}
-use Rattle.characters.specs.Bytes.{code_bytes}
 use Rattle.characters.proofs.Columns.{column_front, past_mixed, is_ascii}
 use Rattle.characters.proofs.mixed_bytes.Goals as goal
 
-pub returns-then-v-lt19 : goal.returns-then-v-lt19
+pub returns-in-0-to-18 : goal.returns-in-0-to-18
 unfolding mixed_characters is_ascii
-returns-then-v-lt19 c =
-    c.character.ensures ∙ ap code_bytes (column_front _ _ refl c.args.v c.if-v-lt19.true)
+returns-in-0-to-18 c = c.character.ensures ∙ column_front _ _ refl c.args.v (omega arith)
 
-pub returns : goal.returns
-returns c = c.no_bytes.ensures ∙ ap code_bytes (past_mixed c.args.v c.if-v-lt32.false)
+pub returns-in_default : goal.returns-in_default
+returns-in_default c =
+    let above : 32 ≤ c.args.v = omega arith in
+    past_mixed c.args.v above

@@ -1,15 +1,12 @@
 use mathlib.Core.Path.{refl}
 use native.Mathlib.Omega.{arith}
-use Rattle.check_matrix.proofs.Turning.{turning_start, turning_row, turning_place, turning_next, turning_done}
+use Rattle.check_matrix.proofs.Turning.{turning_start, turning_row, turning_place, turning_next}
 use Rattle.check_matrix.proofs.turn_block.Goals as goal
 
 pub loop-j-init : goal.loop-j-init
 loop-j-init c =
     let args = c.args in
     turning_start args.a args.wr args.first args.work.now
-
-pub number_at-c-requires : goal.number_at-c-requires
-number_at-c-requires c = omega (arith, c.loop-j.invariant.changed.long)
 
 pub overflow_add-first : goal.overflow_add-first
 overflow_add-first c =
@@ -26,11 +23,3 @@ pub loop-j-preserved : goal.loop-j-preserved
 loop-j-preserved c =
     let pre = c.requires in
     turning_next pre.0 pre.1 c.loop-j.invariant (omega arith) c.number_at-c.ensures.0 c.turn.ensures
-
-pub shape_of-work : goal.shape_of-work
-shape_of-work c = c.loop-j.invariant.changed.long
-
-pub returns : goal.returns
-returns c =
-    let pre = c.requires in
-    turning_done pre.0 pre.1 c.loop-j.invariant (omega arith)

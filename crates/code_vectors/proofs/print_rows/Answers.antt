@@ -29,15 +29,3 @@ print_row-requires g c =
     let sizes = c.known_sizes.ensures in
     let r = room sizes.0 sizes.1 c.areas_for-a.ensures c.requires in
     (laid_as (room_laid r) c.build.ensures.built.changed.long, omega (arith, checks_areas r, sizes.3))
-
-pub print_row-requires-2 : goal.print_row-requires-2
-print_row-requires-2 g c =
-    let sizes = c.known_sizes.ensures in
-    let r = room sizes.0 sizes.1 c.areas_for-a.ensures c.requires in
-    (laid_as (room_laid r) c.build.ensures.built.changed.long, omega (arith, checks_areas r, sizes.3))
-
-pub print_row-requires-3 : goal.print_row-requires-3
-print_row-requires-3 g c =
-    let sizes = c.known_sizes.ensures in
-    let r = room sizes.0 sizes.1 c.areas_for-a.ensures c.requires in
-    (laid_as (room_laid r) c.build.ensures.built.changed.long, omega (arith, checks_areas r, sizes.3))

@@ -1,12 +1,8 @@
 -- `codeword::solve_checks` meets its contract. The invariant: the check columns before c hold the parity of their rows over the columns
--- before them, the other columns hold what they held, and the word stands as the row behind the rows too. What falls: the columns left.
+-- before them, the other columns hold what they held, and the word stands as the row behind the rows too.
 -- Assumes nothing.
-use Prim.Native.Nat.{◌-◌, ◌≤◌}
 use Rattle.codeword.proofs.Solving.{SolvedTo}
 use Rattle.codeword.proofs.solve_checks.Given as goal
 
 abbrev pub invariant-loop-c : goal.invariant-loop-c
-invariant-loop-c l = (l.c ≤ l.a.gross) × SolvedTo l.a l.initial.work l.work l.c
-
-abbrev pub decreases-loop-c : goal.decreases-loop-c
-decreases-loop-c l = l.a.gross - l.c
+invariant-loop-c l = SolvedTo l.a l.initial.work l.work l.c

@@ -1,25 +1,16 @@
-use mathlib.Core.Path.{◌≡◌, refl, ap, ◌∙◌}
-use mathlib.Core.Bool.{xor}
-use native.Mathlib.Omega.{arith}
+-- `dense::parity` meets its contract. Assumes nothing.
+use Prim.Native.Nat.{◌*◌}
+use mathlib.Core.Path.{ap, ◌∙◌}
 use Rattle.symbology.specs.Ranges.{tally}
-use Rattle.laws.specs.Gf2.{parity}
-use Rattle.dense.proofs.Dense.{parity_byte}
+use Rattle.lent.proofs.Buffer.{part_lent}
+use Rattle.dense.proofs.Dense.{parity_rows}
 use Rattle.dense.proofs.parity.Goals as goal
-
-pub loop-b-init : goal.loop-b-init
-unfolding parity xor
-loop-b-init c = (omega arith, refl)
-
-pub loop-b-preserved : goal.loop-b-preserved
-loop-b-preserved c =
-    let args = c.args in
-    let now = c.loop-b in
-    (omega arith, parity_byte args.stride args.i args.k now.b args.xs.now now.both (omega arith) now.invariant.1)
-
-pub odd_ones-requires : goal.odd_ones-requires
-odd_ones-requires c = tt
 
 pub returns : goal.returns
 returns c =
-    let end : c.loop-b.b ≡ c.args.stride = omega arith in
-    c.odd_ones.ensures ∙ ap tally (rw end at c.loop-b.invariant.1)
+    let a = c.args in
+    let row = part_lent a.xs.now (a.i * a.stride) a.stride in
+    let word = part_lent a.xs.now (a.k * a.stride) a.stride in
+    let common = rw (row, word) at c.common_ones.ensures in
+    c.odd_ones.ensures
+    ∙ ap tally (rw common (parity_rows a.stride a.i a.k a.xs.now c.requires.0 c.requires.1))

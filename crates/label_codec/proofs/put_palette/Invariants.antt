@@ -1,10 +1,8 @@
--- `label_codec::put_palette` is safe. The invariant: no more entries are stored, and no more columns passed, than colours are passed. What
--- falls: the colours not passed yet. Assumes nothing.
-use Rattle.std.proofs.Common.{◌+◌, ◌*◌, ◌-◌, ◌≤◌}
+-- `label_codec::put_palette` is safe. The invariant: no more entries are added, and no more columns passed, than colours are passed.
+-- Assumes nothing.
+use Rattle.std.proofs.Common.{◌+◌, ◌*◌, ◌≤◌}
+use Rattle.arrayvec.specs.ArrayVec.{array_vec_len}
 use Rattle.label_codec.proofs.put_palette.Given as goal
 
 abbrev pub invariant-loop-colour : goal.invariant-loop-colour
-invariant-loop-colour l = (l.colour ≤ l.colours) × (l.n ≤ l.at + 3 * l.colour) × (l.column ≤ l.x + l.colour)
-
-abbrev pub decreases-loop-colour : goal.decreases-loop-colour
-decreases-loop-colour l = l.colours - l.colour
+invariant-loop-colour l = (array_vec_len l.list ≤ array_vec_len l.initial.list + 3 * l.colour) × (l.column ≤ l.x + l.colour)

@@ -1,42 +1,64 @@
-use Prim.Native.Nat.{◌<◌}
-use mathlib.Core.Path.{◌≡◌, ◌∙◌, sym, refl}
+use Prim.Native.Nat.{ℕ, ◌+◌, ◌≤◌, ◌<◌}
+use mathlib.Core.Path.{◌≡◌, ◌∙◌, sym, refl, ap₂}
+use mathlib.Core.List.{List}
+use native.Mathlib.Numerals.{add-one}
 use native.Mathlib.Omega.{arith}
-use Rattle.symbology.specs.Sides.{columns}
-use Rattle.laws.proofs.Ranks.{rank_first}
-use Rattle.layout.proofs.Walk.{at_column}
-use Rattle.layout.proofs.Sampled.{sampled_start, sampled_all}
+use Rattle.symbology.specs.declared.Params.{Params}
+use Rattle.symbology.specs.Sides.{columns, rows}
+use Rattle.symbology.specs.Placement.{sampled}
+use Rattle.laws.proofs.Ranks.{rank_first, rank_column}
+use Rattle.layout.proofs.Walk.{at_module, same_symbol}
+use Rattle.layout.proofs.Sampled.{sampled_start, sampled_next, sampled_column, sampled_all}
 use Rattle.layout.proofs.sample.Goals as goal
 
-pub columns_of-width-requires : goal.columns_of-width-requires
-columns_of-width-requires c = c.requires.inside_range
+pub of-symbol-requires : goal.of-symbol-requires
+of-symbol-requires c = (c.requires.inside_range, c.requires.sound)
 
 pub loop-c-init : goal.loop-c-init
 loop-c-init c =
-    let a = c.args in
-    let none = sampled_start a.p a.list.now a.matrix.now a.out.now c.requires.all_bits in
-    (omega arith, sym (rank_first a.p a.list.now), none)
+    let s = c.of-symbol.result in
+    let sized = same_symbol c.of-symbol.ensures.0 c.of-symbol.ensures.1 c.requires in
+    let none = sampled_start s.patterns.params s.list.now c.args.matrix.now c.args.out.now sized.all_bits in
+    (omega arith, sym (rank_first s.patterns.params s.list.now), none)
 
-pub sample_column-k-requires : goal.sample_column-k-requires
-sample_column-k-requires c =
-    let cores = c.side_cores-cores in
-    let loop = c.loop-c in
-    let i = loop.invariant in
-    let inside : loop.c < columns c.args.p = omega (arith, c.columns_of-width.ensures.0) in
-    let whole = i.2.whole ∙ sym c.requires.all_bits in
-    (at_column c.requires cores.result _ _ loop.c loop.k cores.ensures whole refl inside i.1, i.2)
+pub loop-r-init : goal.loop-r-init
+loop-r-init c = (omega arith, c.loop-c.invariant.1, c.loop-c.invariant.2)
+
+pub sample_module-k-requires : goal.sample_module-k-requires
+sample_module-k-requires c =
+    let i = c.loop-r.invariant in
+    let s = c.of-symbol.result in
+    let sized = same_symbol c.of-symbol.ensures.0 c.of-symbol.ensures.1 c.requires in
+    let across : c.loop-c.c < columns s.patterns.params = omega (arith, c.columns-c-end.ensures.0) in
+    let inside : c.loop-r.r < rows s.patterns.params = omega (arith, c.rows-r-end.ensures.0) in
+    let whole = i.2.whole ∙ sym sized.all_bits in
+    record { at = at_module sized _ _ c.loop-c.c c.loop-r.r c.loop-r.k whole refl across i.0 i.1; inside = inside }
+
+pub loop-r-preserved : goal.loop-r-preserved
+loop-r-preserved c =
+    let i = c.loop-r.invariant in
+    let s = c.of-symbol.result in
+    let across : c.loop-c.c < columns s.patterns.params = omega (arith, c.columns-c-end.ensures.0) in
+    let inside : c.loop-r.r < rows s.patterns.params = omega (arith, c.rows-r-end.ensures.0) in
+    let next = sampled_next i.2 s.inside_range s.sound across inside c.loop-r.k i.1 in
+    (omega (arith, inside), c.sample_module-k.ensures.next, rw c.sample_module-k.ensures.stored next)
 
 pub loop-c-preserved : goal.loop-c-preserved
 loop-c-preserved c =
-    let columns_of = c.columns_of-width in
-    let sample_column = c.sample_column-k in
-    (omega (arith, columns_of.ensures.0), sample_column.ensures.0, sample_column.ensures.1)
+    let s = c.of-symbol.result in
+    let i = c.loop-r.invariant in
+    let e : c.loop-r.r ≡ rows s.patterns.params = omega (arith, i.0, c.rows-r-end.ensures.0) in
+    let most : c.loop-c.c + 1 ≤ columns s.patterns.params = omega (arith, c.columns-c-end.ensures.0) in
+    (most, i.1 ∙ rw (e, add-one c.loop-c.c) (rank_column s.patterns.params s.list.now c.loop-c.c), sampled_column (rw e at i.2))
 
 pub shape_of-out : goal.shape_of-out
 shape_of-out c =
-    c.loop-c.invariant.2.whole ∙ sym c.requires.all_bits
+    let sized = same_symbol c.of-symbol.ensures.0 c.of-symbol.ensures.1 c.requires in
+    c.loop-c.invariant.2.whole ∙ sym sized.all_bits
 
 pub returns : goal.returns
 returns c =
     let i = c.loop-c.invariant in
-    let all : c.loop-c.c ≡ columns c.args.p = omega (arith, i.0, c.columns_of-width.ensures.0) in
-    sampled_all (rw all at i.2) c.requires.inside_range c.requires.sound
+    let all : c.loop-c.c ≡ columns c.of-symbol.result.patterns.params = omega (arith, i.0, c.columns-c-end.ensures.0) in
+    sampled_all (rw all at i.2) c.of-symbol.result.inside_range c.of-symbol.result.sound
+    ∙ ap₂ (λ (p : Params) (l : List ℕ). sampled p l c.args.matrix.now) c.of-symbol.ensures.0 c.of-symbol.ensures.1

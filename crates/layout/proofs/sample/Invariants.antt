@@ -1,14 +1,20 @@
--- `layout::sample` meets its contract. The invariant: the bits of the columns before c are sampled, and k is the number of data modules in
--- them. What falls: the columns not sampled yet. Assumes nothing.
-use Prim.Native.Nat.{◌-◌, ◌≤◌}
+-- `layout::sample` meets its contract. The invariant: the bits of the modules before row r of column c are sampled, and k is the
+-- number of data modules among those; for a column r is 0. Assumes nothing.
+use Prim.Native.Nat.{◌≤◌}
 use mathlib.Core.Path.{◌≡◌}
-use Rattle.symbology.specs.Sides.{columns}
+use Rattle.symbology.specs.Sides.{columns, rows}
 use Rattle.symbology.specs.Placement.{rank}
 use Rattle.layout.specs.Walk.{SampledTo}
 use Rattle.layout.proofs.sample.Given as goal
 
 abbrev pub invariant-loop-c : goal.invariant-loop-c
-invariant-loop-c l = (l.c ≤ columns l.p) × (l.k ≡ rank l.p l.list l.c 0) × SampledTo l.p l.list l.matrix l.out l.c 0
+invariant-loop-c l =
+    (l.c ≤ columns l.symbol.patterns.params)
+    × (l.k ≡ rank l.symbol.patterns.params l.symbol.list.now l.c 0)
+    × SampledTo l.symbol.patterns.params l.symbol.list.now l.matrix l.out l.c 0
 
-abbrev pub decreases-loop-c : goal.decreases-loop-c
-decreases-loop-c l = l.width - l.c
+abbrev pub invariant-loop-r : goal.invariant-loop-r
+invariant-loop-r l =
+    (l.r ≤ rows l.symbol.patterns.params)
+    × (l.k ≡ rank l.symbol.patterns.params l.symbol.list.now l.c l.r)
+    × SampledTo l.symbol.patterns.params l.symbol.list.now l.matrix l.out l.c l.r

@@ -1,13 +1,12 @@
--- `lent::put_number` meets its contract. Assumes nothing.
-use mathlib.Core.Path.{refl}
+-- `lent::put_number` meets its contract: a number below 65536 is its two bytes. Assumes nothing.
+use Prim.Native.Nat.{◌/◌, ◌%◌}
+use mathlib.Core.Path.{◌≡◌}
 use native.Mathlib.Omega.{arith}
-use lib.ListN.{length-set}
 use Rattle.lent.specs.Buffer.{stored_number}
 use Rattle.lent.proofs.put_number.Goals as goal
 
-pub bounds-xs-at-2 : goal.bounds-xs-at-2
-bounds-xs-at-2 c = simp length-set (omega arith)
-
 pub returns : goal.returns
 unfolding stored_number
-returns c = refl
+returns c =
+    let small : c.args.v / 256 % 256 ≡ c.args.v / 256 = omega arith in
+    rw c.to_le_bytes.ensures (rw small)

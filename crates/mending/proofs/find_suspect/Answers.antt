@@ -1,109 +1,62 @@
-use Prim.Native.Nat.{ℕ, ◌+◌, ◌<◌}
-use mathlib.Core.Path.{◌≡◌, sym, ◌∙◌}
-use mathlib.Core.Bool.{Bool, false}
+use Prim.Native.Nat.{◌≤◌}
+use mathlib.Core.Path.{◌≡◌}
 use native.Mathlib.Omega.{arith}
-use Rattle.laws.proofs.Search.{search_start, search_next, search_found, search_none}
-use Rattle.lent.proofs.Work.{marks_inside}
-use Rattle.checks.proofs.Next.{NextCheck, next_check}
+use Rattle.std.proofs.Common.{None, below_more}
+use Rattle.symbology.specs.Rule.{unmet_at, met_at}
+use Rattle.lent.specs.Work.{word_in}
+use Rattle.lent.proofs.Buffer.{length_part}
+use Rattle.checks.specs.Checks.{checks_in}
 use Rattle.syndrome.proofs.Marks.{mark_bits}
-use Rattle.mending.proofs.Counts.{suspect_by, passed_start, passed_next, passed_suspect, passed_unsuspected}
-use Rattle.mending.proofs.Counts.{balance_unsuspected, suspect_by_lem}
+use Rattle.mending.proofs.Counts.{passed_start, passed_next, passed_counts, balance_unsuspected}
 use Rattle.mending.proofs.find_suspect.Goals as goal
-use Rattle.mending.proofs.find_suspect.Goals.{After-next_check-i-in-loop-i, else-a-number_at, else-work-a-eq1}
-use Rattle.mending.proofs.find_suspect.Goals.{then-a-number_at+then-i-a+else-met-unmet, then-work-a-eq1}
-
-pub bits-init : goal.bits-init
-bits-init c =
-    let args = c.args in
-    search_start (suspect_by args.a args.work.now) args.a.gross
-
-pub overflow_add-a : goal.overflow_add-a
-overflow_add-a c =
-    omega (arith, c.requires.0)
-
-pub number_at-requires : goal.number_at-requires
-number_at-requires c =
-    omega (arith, c.requires.0)
-
-pub next_check-i-requires : goal.next_check-i-requires
-next_check-i-requires c =
-    (c.requires.0, omega arith, omega arith)
+use Rattle.mending.proofs.find_suspect.Goals.{then-a-number_at+in_default+else-met-unmet, else-a-number_at}
+use Rattle.mending.proofs.find_suspect.Goals.{then-work-a-eq1, else-work-a-eq1}
 
 pub loop-i-init : goal.loop-i-init
-loop-i-init c =
-    let args = c.args in
-    passed_start (next_check args.a args.work.now c.bits.j (omega arith) c.next_check-i.ensures)
-
-pub overflow_add-a-in-loop-i : goal.overflow_add-a-in-loop-i
-overflow_add-a-in-loop-i c =
-    omega (arith, c.loop-i.invariant.most, marks_inside c.requires.0)
-
-pub bounds-work-a : goal.bounds-work-a
-bounds-work-a c =
-    omega (arith, c.loop-i.invariant.most, marks_inside c.requires.0)
-
-pub overflow_add-unmet : goal.overflow_add-unmet
-overflow_add-unmet c = omega (arith, c.loop-i.invariant.few)
-
-pub overflow_add-met : goal.overflow_add-met
-overflow_add-met c = omega (arith, c.loop-i.invariant.few)
-
-pub overflow_add-i : goal.overflow_add-i
-overflow_add-i c = omega (arith, c.loop-i.invariant.most)
-
-pub next_check-i-requires-in-loop-i : goal.next_check-i-requires-in-loop-i
-next_check-i-requires-in-loop-i c =
-    (c.requires.0, omega arith, omega (arith, c.loop-i.invariant.most))
-
--- the next check that the bit stands in
-next : (c : After-next_check-i-in-loop-i)
-    → let args = c.args in
-    NextCheck args.a args.work.now c.bits.j (c.loop-i.i + 1) c.next_check-i-in-loop-i.result
-next c =
-    let args = c.args in
-    next_check args.a args.work.now c.bits.j (omega (arith, c.loop-i.invariant.most)) c.next_check-i-in-loop-i.ensures
-
-pub loop-i-smaller : goal.loop-i-smaller
-loop-i-smaller c = omega (arith, c.loop-i.invariant.most, (next c).least)
+loop-i-init c = (c.bits.invariant.0, passed_start c.args.a c.args.work.now c.bits.j)
 
 pub loop-i-preserved : goal.loop-i-preserved
 loop-i-preserved c =
-    let passed = c.loop-i.invariant in
-    let inside : c.loop-i.i < c.args.a.checks = omega (arith, passed.most) in
-    let mark = mark_bits c.args.a c.args.work.now c.requires.1 c.loop-i.i inside in
-    elim c.if-work-a-eq1.branch [
-      | then-work-a-eq1 w ↦ passed_next passed inside mark (omega (arith, w.if-work-a-eq1.true, w.unmet-is))
-          (omega (arith, w.if-work-a-eq1.true, w.met-is)) (next c)
-      | else-work-a-eq1 w ↦ passed_next passed inside mark (omega (arith, mark, w.if-work-a-eq1.false, w.unmet-is))
-          (omega (arith, mark, w.if-work-a-eq1.false, w.met-is)) (next c)
-    ]
+    let passed = c.loop-i.invariant.1 in
+    let n = c.in-Some.ensures in
+    let mark = mark_bits c.args.a c.args.work.now c.requires.1 c.in-Some.i n.inside in (
+      c.loop-i.invariant.0,
+      elim c.if-work-a-eq1.branch [
+        | then-work-a-eq1 w ↦ passed_next passed n mark (omega (arith, w.if-work-a-eq1.true, w.unmet-is))
+            (omega (arith, w.if-work-a-eq1.true, w.met-is))
+        | else-work-a-eq1 w ↦ passed_next passed n mark (omega (arith, mark, w.if-work-a-eq1.false, w.unmet-is))
+            (omega (arith, mark, w.if-work-a-eq1.false, w.met-is))
+      ],
+    )
 
 pub bits-preserved : goal.bits-preserved
 bits-preserved c =
-    let balance_is = c.number_at.ensures.0 in
     let a = c.args.a in
     let work = c.args.work.now in
-    let bits = c.bits in
-    let f : ℕ → Bool = suspect_by a work in
-    let not_here : f bits.j ≡ false =
+    let j = c.bits.j in
+    let marked = c.requires.1 in
+    let cs = checks_in a work in
+    let bits = word_in a work in
+    let not_here : (c.if-a-number_at.found ≡ None) × (unmet_at cs bits j ≤ met_at cs bits j) =
     elim c.if-a-number_at.branch [
-      | then-a-number_at+then-i-a+else-met-unmet w ↦ passed_unsuspected w.loop-i.invariant (omega (arith, w.if-i-a))
-          (omega (arith, w.if-met-unmet))
-      | else-a-number_at w ↦ balance_unsuspected a work bits.j c.requires.2 (omega arith) (omega (arith, w, balance_is))
+      | then-a-number_at+in_default+else-met-unmet w ↦ (
+        rw w.found-is w.loop-i.invariant.0,
+        omega (arith, passed_counts a work marked j (omega arith) w.loop-i.invariant.1 w.in_default.ensures, w.if-met-unmet.false),
+      )
+      | else-a-number_at w ↦ (
+        rw w.found-is c.bits.invariant.0,
+        balance_unsuspected a work marked j (omega arith) c.requires.2 (omega (arith, w.if-a-number_at.false, c.number_at.ensures.0)),
+      )
     ] in
-    search_next f a.gross bits.j bits.invariant (omega arith) not_here
-
-pub returns-after-bits : goal.returns-after-bits
-returns-after-bits c =
-    let a = c.args.a in
-    let work = c.args.work.now in
-    sym (search_none (suspect_by a work) a.gross c.bits.j c.bits.invariant (omega arith))
-    ∙ suspect_by_lem a work c.requires.1 c.requires.0
+    (not_here.0, below_more _ _ c.bits.invariant.1 not_here.1)
 
 pub returns-then-met-unmet : goal.returns-then-met-unmet
 returns-then-met-unmet c =
     let a = c.args.a in
     let work = c.args.work.now in
-    let found = passed_suspect c.loop-i.invariant (omega arith) (omega arith) in
-    sym (search_found (suspect_by a work) a.gross c.bits.j c.bits.invariant (omega arith) found)
-    ∙ suspect_by_lem a work c.requires.1 c.requires.0
+    let counts = passed_counts a work c.requires.1 c.bits.j (omega arith) c.loop-i.invariant.1 c.in_default.ensures in
+    record {
+      inside = omega (arith, length_part work a.word a.gross (omega (arith, c.requires.0)));
+      suspected = omega (arith, counts);
+      none_below = c.bits.invariant.1;
+    }

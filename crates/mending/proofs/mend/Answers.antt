@@ -1,16 +1,9 @@
 -- `mending::mend` meets its contract: the checks are judged, the bits weighed where one is unmet, and the rule is run. Assumes nothing.
-use mathlib.Core.Path.{◌∙◌}
 use Rattle.lent.proofs.Work.{laid_as}
 use Rattle.syndrome.proofs.Marks.{mark_bits}
 use Rattle.mending.proofs.Run.{Ready, ready, ready_bits, mended_run, mended_none}
 use Rattle.mending.proofs.mend.Goals as goal
 use Rattle.mending.proofs.mend.Goals.{After-weigh}
-
-pub judge-first-requires : goal.judge-first-requires
-judge-first-requires c = c.requires.0
-
-pub shape_of-work-then-first-eq0 : goal.shape_of-work-then-first-eq0
-shape_of-work-then-first-eq0 c = c.judge-first.ensures.changed.long
 
 pub returns-then-first-eq0 : goal.returns-then-first-eq0
 returns-then-first-eq0 c =
@@ -32,14 +25,6 @@ pub run_rule-repairs-requires : goal.run_rule-repairs-requires
 run_rule-repairs-requires c =
     let pre = c.requires in
     ready_bits pre.0 (made (goal.at.run_rule-repairs-requires c).After-weigh) pre.1
-
-pub count_unmet-left-requires : goal.count_unmet-left-requires
-count_unmet-left-requires c =
-    let laid = c.requires.0 in (
-      laid_as laid
-          (c.run_rule-repairs.ensures.changed.long ∙ (made (goal.at.count_unmet-left-requires c).After-weigh).changed.long),
-      c.run_rule-repairs.ensures.marked,
-    )
 
 pub returns : goal.returns
 returns c =

@@ -1,33 +1,19 @@
 use mathlib.Core.Path.{◌∙◌, sym}
-use native.Mathlib.Omega.{arith}
-use Rattle.symbology.specs.Reserved.{entry_at, first_entry}
-use Rattle.laws.proofs.Search.{search_start, search_next, search_found, search_none}
+use Rattle.symbology.specs.Reserved.{first_entry}
+use Rattle.laws.proofs.Search.{search_start, search_next, search_some, search_empty}
 use Rattle.reserved.proofs.first_entry.Goals as goal
 
 pub loop-k-init : goal.loop-k-init
-loop-k-init c =
-    let a = c.args in
-    search_start (entry_at a.list.now a.x a.y) a.n
+loop-k-init c = search_start _ _
 
 pub returns-then-stands_at : goal.returns-then-stands_at
 unfolding first_entry
 returns-then-stands_at c =
-    let a = c.args in
-    let inside = c.loop-k-test.true in
-    let there = sym c.stands_at.ensures ∙ c.if-stands_at.true in
-    let found = search_found (entry_at a.list.now a.x a.y) a.n c.loop-k.k c.loop-k.invariant inside there in
-    (sym found, omega arith)
+    sym (search_some _ _ _ c.loop-k.invariant c.loop-k-test.true (sym c.stands_at.ensures ∙ c.if-stands_at.true))
 
 pub loop-k-preserved : goal.loop-k-preserved
-loop-k-preserved c =
-    let a = c.args in
-    let inside = c.loop-k-test.true in
-    let elsewhere = sym c.stands_at.ensures ∙ c.if-stands_at.false in
-    search_next (entry_at a.list.now a.x a.y) a.n c.loop-k.k c.loop-k.invariant inside elsewhere
+loop-k-preserved c = search_next _ _ _ c.loop-k.invariant c.loop-k-test.true (sym c.stands_at.ensures ∙ c.if-stands_at.false)
 
 pub returns : goal.returns
 unfolding first_entry
-returns c =
-    let a = c.args in
-    let none = search_none (entry_at a.list.now a.x a.y) a.n c.loop-k.k c.loop-k.invariant c.loop-k-test.false in
-    (sym none, c.loop-k.invariant.most)
+returns c = sym (search_empty _ _ _ c.loop-k.invariant c.loop-k-test.false)

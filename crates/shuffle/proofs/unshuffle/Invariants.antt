@@ -1,11 +1,7 @@
--- `shuffle::unshuffle` meets its contract. The invariant: the exchanges of the last `done` draws are undone, and s is the state before
--- these draws. What falls: the exchanges left. Assumes nothing.
-use Prim.Native.Nat.{◌-◌}
+-- `shuffle::unshuffle` meets its contract. The invariant: the exchanges of the last draws are undone, those with at most `last` places
+-- left, and s is the state before these draws. Assumes nothing.
 use Rattle.shuffle.proofs.Backwards.{Restoring}
 use Rattle.shuffle.proofs.unshuffle.Given as goal
 
-abbrev pub invariant-loop-done : goal.invariant-loop-done
-invariant-loop-done l = Restoring l.initial.xs l.state l.done l.s l.xs
-
-abbrev pub decreases-loop-done : goal.decreases-loop-done
-decreases-loop-done l = l.n - l.done
+abbrev pub invariant-loop-last : goal.invariant-loop-last
+invariant-loop-last l = Restoring l.initial.xs l.state l.last l.s l.xs

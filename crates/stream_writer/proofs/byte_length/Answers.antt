@@ -1,13 +1,17 @@
 -- `stream_writer::byte_length` meets its contract: the length follows from the number of whole runs and the last run. Assumes nothing.
+use Prim.Native.Nat.{ℕ, ◌%◌}
 use native.Mathlib.Omega.{arith}
+use lib.ListN.{length}
 use Rattle.stream_writer.proofs.Lengths.{last_none, last_short, last_long, whole_runs}
 use Rattle.stream_writer.proofs.byte_length.Goals as goal
-
-pub returns-then-rest-eq0 : goal.returns-then-rest-eq0
-returns-then-rest-eq0 c = omega (arith, whole_runs c.args.message.now, last_none c.if-rest-eq0.true)
-
-pub returns-then-rest-lt16 : goal.returns-then-rest-lt16
-returns-then-rest-lt16 c = omega (arith, whole_runs c.args.message.now, last_short (omega arith) c.if-rest-lt16.true)
+use Rattle.stream_writer.proofs.byte_length.Goals.{in-0, in-1-to-15, in_default}
 
 pub returns : goal.returns
-returns c = omega (arith, whole_runs c.args.message.now, last_long c.if-rest-lt16.false)
+returns c =
+    let m = c.args.message.now in
+    let r : ℕ = length m % 8206 in
+    elim c.match-n-rem8206.branch [
+      | in-0 w ↦ omega (arith, whole_runs m, last_none {r = r} (omega arith))
+      | in-1-to-15 w ↦ omega (arith, whole_runs m, last_short {r = r} (omega arith) (omega arith))
+      | in_default w ↦ omega (arith, whole_runs m, last_long {r = r} (omega arith))
+    ]

@@ -2,26 +2,16 @@
 use Prim.Native.Nat.{◌-◌}
 use mathlib.Core.Path.{refl, sym}
 use native.Mathlib.Omega.{arith}
-use Rattle.laws.proofs.ByteMode.{count_short, count_long, short_length, long_length}
+use Rattle.laws.proofs.ByteMode.{count_short, count_long}
 use Rattle.pieces.proofs.Pieces.{joined, same_piece}
 use Rattle.stream_writer.proofs.Runs.{field}
 use Rattle.stream_writer.proofs.write_count.Goals as goal
-
-pub put_bits-requires : goal.put_bits-requires
-put_bits-requires c = omega (arith, short_length c.args.n c.if-n-lt16.true)
 
 pub returns-then-n-lt16 : goal.returns-then-n-lt16
 returns-then-n-lt16 c =
     let put_bits = c.put_bits in
     let n = c.args.n in
     same_piece (sym (count_short n c.if-n-lt16.true)) (field 4 n refl put_bits.ensures)
-
-pub put_bits-requires-2 : goal.put_bits-requires-2
-put_bits-requires-2 c = omega (arith, long_length c.args.n c.if-n-lt16.false)
-
-pub put_bits-requires-3 : goal.put_bits-requires-3
-put_bits-requires-3 c =
-    omega (arith, long_length c.args.n c.if-n-lt16.false)
 
 pub returns : goal.returns
 returns c =

@@ -1,6 +1,6 @@
 -- `symbol_reader::from_accepted` meets its contract: test 10, then the stream in the net bits. Assumes nothing.
 use Prim.Native.Nat.{◌+◌, ◌≤◌}
-use mathlib.Core.Path.{sym, ◌∙◌}
+use mathlib.Core.Path.{refl, sym, ◌∙◌}
 use native.Mathlib.Omega.{arith}
 use lib.ListN.{length}
 use Rattle.symbology.specs.Code.{matrix_for}
@@ -34,12 +34,13 @@ take_message-requires c =
 
 pub returns-then-take_message : goal.returns-then-take_message
 returns-then-take_message c =
-    let a = c.args in (
-      spare_one_lem a.s (word_in a.a a.work.now) a.c a.room a.message.now
-          (sym (spare_told c.requires.0 (taken (goal.at.returns-then-take_message c).After-take_message)) ∙ c.if-take_message.true)
-          c.counted.ensures,
-      (taken (goal.at.returns-then-take_message c).After-take_message).changed,
-    )
+    let a = c.args in
+    record {
+      told = λ k.
+          spare_one_lem a.s (word_in a.a a.work.now) k a.room a.message.now
+          (sym (spare_told c.requires.0 (taken (goal.at.returns-then-take_message c).After-take_message)) ∙ c.if-take_message.true) refl;
+      kept = (taken (goal.at.returns-then-take_message c).After-take_message).changed;
+    }
 
 pub overflow_add-end : goal.overflow_add-end
 overflow_add-end c =
@@ -52,10 +53,11 @@ slice_bounds-read_net-end c =
 pub returns : goal.returns
 returns c =
     let a = c.args in
-    let room = c.requires.0 in (
-      spare_none a.s (word_in a.a a.work.now) a.c a.room a.message.now
+    let room = c.requires.0 in
+    record {
+      told = λ k.
+          spare_none a.s (word_in a.a a.work.now) k a.room a.message.now c.read_net.result
           (sym (spare_told room (taken (goal.at.returns c).After-take_message)) ∙ c.if-take_message.false)
-          (net_lent c.take_message.new.work room ∙ net_told room (taken (goal.at.returns c).After-take_message))
-          c.read_net-read.ensures c.from_stream.ensures,
-      (taken (goal.at.returns c).After-take_message).changed,
-    )
+          (net_lent c.take_message.new.work room ∙ net_told room (taken (goal.at.returns c).After-take_message)) c.read_net.ensures;
+      kept = (taken (goal.at.returns c).After-take_message).changed;
+    }

@@ -1,32 +1,30 @@
--- `symbol_reader::from_mended` meets its contract: the answer from the accepted word, and on 0 the places from their area. Assumes nothing.
-use mathlib.Core.Path.{sym}
-use Rattle.call_laws.proofs.Answers.{refused_front}
+-- `symbol_reader::from_mended` meets its contract: what the accepted word gives, and on 0 the places from their area. Assumes nothing.
+use mathlib.Core.Path.{refl}
+use Rattle.std.proofs.lemmas.Result.{err_from_is_err_and}
+use Rattle.calls.specs.Read.{message_in_accepted}
 use Rattle.lent.specs.Buffer.{numbers_at}
-use Rattle.symbol_reader.proofs.Reading.{places_inside, stored_places}
+use Rattle.lent.specs.Work.{word_in}
+use Rattle.symbol_reader.proofs.Reading.{places_inside, stored_places, refused_mended}
 use Rattle.symbol_reader.proofs.from_mended.Goals as goal
 
 pub copy_numbers-requires : goal.copy_numbers-requires
 copy_numbers-requires c =
     let pre = c.requires in
-    (places_inside pre.0 c.args.c.repairs pre.2 c.from_accepted-answer.ensures.1, pre.3)
+    (places_inside pre.0 c.args.mended.repairs pre.2 c.from_accepted.ensures.kept, pre.3)
 
-pub returns-then-answer-eq0 : goal.returns-then-answer-eq0
-returns-then-answer-eq0 c =
+pub returns-in_err-length : goal.returns-in_err-length
+returns-in_err-length c =
+    let a = c.args in
+    let p = err_from_is_err_and c.from_residual.result c.from_residual.ensures.1 in
+    let message = message_in_accepted a.s (word_in a.a a.work.now) in
+    let places = numbers_at a.work.now a.a.repaired a.mended.repairs in
+    rw (p.1, p.2) (λ k. refused_mended k message places c.in_err-length.field-0.0 (c.in_err-length.ensures.told k))
+
+pub returns : goal.returns
+returns c =
     let pre = c.requires in
     let a = c.args in
-    record {
-      answered = c.from_accepted-answer.ensures.0;
-      places_are =
-          stored_places pre.0 a.c.repairs pre.2 c.from_accepted-answer.ensures.1 a.places.now c.if-answer-eq0.true
-          c.copy_numbers.ensures;
-    }
-
-pub returns-else-answer-eq0 : goal.returns-else-answer-eq0
-returns-else-answer-eq0 c =
-    let a = c.args in
-    record {
-      answered = c.from_accepted-answer.ensures.0;
-      places_are =
-          sym (refused_front c.from_accepted-answer.result.number (numbers_at a.work.now a.a.repaired a.c.repairs)
-          a.places.now c.if-answer-eq0.false);
+    λ k. record {
+      answered = c.in_ok-length.ensures.told k;
+      places_are = stored_places pre.0 a.mended.repairs pre.2 c.from_accepted.ensures.kept a.places.now refl c.copy_numbers.ensures;
     }

@@ -1,7 +1,10 @@
 -- `symbol_reader::read_uncleared` meets its contract: test 7, then the word in the buffer, with its wrong stuffing bits counted. Assumes
 -- nothing.
+use mathlib.Core.Path.{refl, sym, ◌∙◌}
 use native.Mathlib.Omega.{arith}
 use lib.ListN.{length}
+use Rattle.symbology.specs.Placement.{first_bad_module}
+use Rattle.laws.proofs.Search.{found_is, found_not}
 use Rattle.call_laws.proofs.Tests.{Legal, legal}
 use Rattle.lent.proofs.Work.{legal_sizes}
 use Rattle.symbol_reader.proofs.Received.{Sized, sized, bits_fit, bits_lent, same_room, word_received, word_asks, stuffing_told}
@@ -21,11 +24,13 @@ laid c =
     let a = c.args in
     sized a.p a.list.now (length a.matrix.now) a.work.now (known (goal.at.After-areas_for-a c).Start) c.requires.1 c.areas_for-a.ensures
 
-pub returns-then-bad-matrix : goal.returns-then-bad-matrix
-returns-then-bad-matrix c =
+pub returns-in-Some : goal.returns-in-Some
+returns-in-Some c =
     let a = c.args in
-    bad_module_lem a.p a.list.now a.matrix.now (length a.work.now) a.room a.message.now a.places.now c.requires.0
-    c.first_bad_module-bad.ensures c.if-bad-matrix.true c.refused.ensures
+    let m = a.matrix.now in
+    let bad =
+    found_is (length m) (first_bad_module a.p.colours m) c.in-Some.bad (sym c.first_bad_module.ensures ∙ c.in-Some.is) in
+    bad_module_lem a.p a.list.now m (length a.work.now) a.room a.message.now a.places.now c.requires.0 (sym bad.0) bad.1 c.from.ensures
 
 pub areas_for-a-requires : goal.areas_for-a-requires
 areas_for-a-requires c =
@@ -68,8 +73,9 @@ from_received-requires c =
 pub returns : goal.returns
 returns c =
     let a = c.args in
+    let m = a.matrix.now in
     let k = laid (goal.at.returns c).After-areas_for-a in
-    good_matrix a.p a.list.now a.matrix.now (length a.work.now) a.room a.message.now a.places.now c.requires.0
-    c.first_bad_module-bad.ensures c.if-bad-matrix.false k.sizes_are
+    good_matrix a.p a.list.now m (length a.work.now) a.room a.message.now a.places.now c.requires.0
+    refl (found_not (length m) (first_bad_module a.p.colours m) (sym c.first_bad_module.ensures ∙ c.in_default.is)) k.sizes_are
     (word_received k a.matrix.now c.receive.ensures)
     (stuffing_told k a.matrix.now c.receive.ensures c.wrong_stuffing.ensures) c.from_received.ensures

@@ -1,13 +1,11 @@
+use mathlib.Core.Path.{sym, ◌∙◌}
 use native.Mathlib.Omega.{arith}
 use Rattle.symbol_reader.proofs.Stuffing.{wrong_none, wrong_most, wrong_next, right_next, wrong_all}
 use Rattle.symbol_reader.proofs.wrong_stuffing.Goals as goal
-use Rattle.symbol_reader.proofs.wrong_stuffing.Goals.{else-bits-i, then-bits-i}
+use Rattle.symbol_reader.proofs.wrong_stuffing.Goals.{else-from-i, then-from-i}
 
 pub loop-i-init : goal.loop-i-init
 loop-i-init c = (wrong_none c.args.bits.now, omega arith)
-
-pub overflow_cast-bits : goal.overflow_cast-bits
-overflow_cast-bits c = omega (arith, c.shared_slice_known-1.given c.loop-i.i)
 
 pub overflow_add-wrong : goal.overflow_add-wrong
 overflow_add-wrong c =
@@ -20,9 +18,9 @@ loop-i-preserved c =
     let n = c.loop-i.wrong in
     let i = c.loop-i.i in
     let so_far = c.loop-i.invariant.0 in (
-      elim c.if-bits-i.branch [
-        | then-bits-i w ↦ rw w.wrong-is (wrong_next bits n i so_far w.if-bits-i.true)
-        | else-bits-i w ↦ rw w.wrong-is (right_next bits n i so_far w.if-bits-i.false)
+      elim c.if-from-i.branch [
+        | then-from-i w ↦ rw w.wrong-is (wrong_next bits n i so_far (λ z. w.if-from-i.true (c.from.ensures ∙ z)))
+        | else-from-i w ↦ rw w.wrong-is (right_next bits n i so_far (sym c.from.ensures ∙ w.if-from-i.false))
       ],
       omega arith,
     )

@@ -7,7 +7,7 @@ use Rattle.symbol_writer.proofs.write_legal.Goals as goal
 
 pub returns : goal.returns
 returns c =
-    let w = c.write_uncleared-answer in
+    let w = c.write_uncleared-written in
     let a = c.args in
     record {
       answer_is = w.ensures.answer_is;

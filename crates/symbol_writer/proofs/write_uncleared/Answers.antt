@@ -1,5 +1,6 @@
 -- `symbol_writer::write_uncleared` meets its contract: test 6, and the matrix of a stream that fits. Assumes nothing.
 use native.Mathlib.Omega.{arith}
+use mathlib.Core.Path.{refl}
 use lib.ListN.{length}
 use Rattle.symbology.specs.Stream.{stream_of}
 use Rattle.call_laws.proofs.Tests.{Legal, legal}
@@ -20,7 +21,7 @@ pub returns-then-exceeds_net : goal.returns-then-exceeds_net
 returns-then-exceeds_net c =
     let a = c.args in
     no_room_lem a.p a.list.now (stream_of a.message.now) a.matrix.now (length a.work.now) c.requires.0
-    c.requires.1 c.exceeds_net.ensures c.if-exceeds_net.true c.answered.ensures
+    c.requires.1 c.exceeds_net.ensures c.if-exceeds_net.true refl
 
 pub store_matrix-requires : goal.store_matrix-requires
 store_matrix-requires c =
@@ -34,4 +35,4 @@ pub returns : goal.returns
 returns c =
     let a = c.args in
     room_enough a.p a.list.now (stream_of a.message.now) a.matrix.now (length a.work.now) c.requires.0
-    c.requires.1 c.exceeds_net.ensures c.if-exceeds_net.false c.store_matrix.ensures c.answered-2.ensures
+    c.requires.1 c.exceeds_net.ensures c.if-exceeds_net.false c.store_matrix.ensures refl

@@ -5,20 +5,20 @@ use Prim.Native.Nat.{ℕ}
 use mathlib.Core.Path.{◌∙◌, ap}
 use native.Mathlib.Omega.{arith}
 use lib.ListN.{get_or, get_or-eq_default}
+use Rattle.std.proofs.lemmas.List.{get_or-map}
 use Rattle.symbology.specs.Sides.{core_table, cores_of}
 use Rattle.tables.specs.Rows.{core_row}
-use Rattle.tables.proofs.Rows.{get_or_map_in}
 use Rattle.tables.proofs.core_row.Goals as goal
 
 pub returns-then-row-lt32 : goal.returns-then-row-lt32
 unfolding core_table cores_of
 returns-then-row-lt32 c =
-    let r = c.row_of-row in
-    get_or_map_in core_row core_table (record { len = 0; at = [] }) [] r.result (omega arith)
+    let r = c.saturating_sub-row in
+    get_or-map core_row core_table r.result [] (record { len = 0; at = [] }) (omega arith)
     ∙ ap (λ (k : ℕ). core_row (get_or core_table k [])) r.ensures
 
 pub returns : goal.returns
 unfolding core_table cores_of
 returns c =
-    let r = c.row_of-row in
+    let r = c.saturating_sub-row in
     rw (← r.ensures, get_or-eq_default core_table [] {n = r.result} (omega arith))

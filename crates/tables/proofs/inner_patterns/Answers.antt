@@ -6,20 +6,26 @@ use native.Mathlib.Nat.{mul-le-mul}
 use lib.ListN.{length}
 use Rattle.symbology.specs.Sides.{cores_of, inner_patterns}
 use Rattle.symbology.proofs.Sides.{cores_least, cores_most}
-use Rattle.tables.specs.declared.CoreRow.{CoreRow}
+use Rattle.tables.proofs.Cores.{row_cores}
 use Rattle.tables.proofs.inner_patterns.Goals as goal
-use Rattle.tables.proofs.inner_patterns.Goals.{After-wide-2}
+use Rattle.tables.proofs.inner_patterns.Goals.{After-cores-2}
 
 -- how many cores there are across and down
-across_are : (c : After-wide-2) → c.wide.result ≡ length (cores_of c.args.horizontal)
-across_are c = c.wide.ensures ∙ ap (λ (r : CoreRow). r.len) c.core_row-across.ensures
+across_are : (c : After-cores-2) → length c.cores.result.now ≡ length (cores_of c.args.horizontal)
+across_are c =
+    let row = c.core_row-across in
+    ap length (c.cores.ensures ∙ row_cores c.args.horizontal c.requires.0 c.requires.1 row.result row.ensures)
 
-down_are : (c : After-wide-2) → c.wide-2.result ≡ length (cores_of c.args.vertical)
-down_are c = c.wide-2.ensures ∙ ap (λ (r : CoreRow). r.len) c.core_row-down.ensures
+down_are : (c : After-cores-2) → length c.cores-2.result.now ≡ length (cores_of c.args.vertical)
+down_are c =
+    let row = c.core_row-down in
+    ap length (c.cores-2.ensures ∙ row_cores c.args.vertical c.requires.2 c.requires.3 row.result row.ensures)
 
 -- 2 to 9 of each
-few : (c : After-wide-2)
-    → (2 ≤ c.wide.result) × (c.wide.result ≤ 9) × (2 ≤ c.wide-2.result) × (c.wide-2.result ≤ 9)
+few : (c : After-cores-2)
+    → let across = length c.cores.result.now in
+    let down = length c.cores-2.result.now in
+    (2 ≤ across) × (across ≤ 9) × (2 ≤ down) × (down ≤ 9)
 few c =
     let across = cores_least c.args.horizontal c.requires.0 c.requires.1 in
     let across_most = cores_most c.args.horizontal c.requires.0 c.requires.1 in
