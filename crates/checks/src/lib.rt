@@ -9,7 +9,9 @@ ghost use Rattle.checks.specs.Votes.{Votes, Voted};
 
 use lent::Areas;
 
-// The first check from `from` on that bit j stands in, where there is one.
+// The first check from `from` on that bit j stands in, where there is one. Searches and votes go through most of
+// the rows: inlined in the loops over bits and repairs they find no registers left.
+#[inline(never)]
 pub fn next_check(work: &[u8], a: Areas, j: usize, from: usize) -> Option<usize>
     requires { Laid a (length work.now) × (j < a.gross) × (from ≤ a.checks) }
     ensures { MatchOption result (InNoCheck a work.now j from a.checks) (NextCheck a work.now j from) }
@@ -36,6 +38,7 @@ pub fn unmet_of(work: &[u8], a: Areas, i: usize) -> u8
 
 // Adds `add` to the number of each bit of check i and takes `sub` off. A byte of the row that is 0 is passed
 // by at once.
+#[inline(never)]
 pub fn vote(work: &mut [u8], a: Areas, i: usize, add: usize, sub: usize)
     requires { Laid a (length work.old) × (i < a.checks) × Votes a i add sub work.old }
     ensures { Voted a i add sub work.old work.new }

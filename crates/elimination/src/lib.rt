@@ -45,6 +45,8 @@ fn find_row(work: &[u8], a: Areas, from: usize, j: usize) -> Option<usize>
 }
 
 // Adds the row `pivot`, whose last 1 stands in column j, to every later row without a mark that has a 1 there.
+// Inlined, it would have the search for a pivot row work out the places of the rows in each turn.
+#[inline(never)]
 fn clear_column(work: &mut [u8], a: Areas, pivot: usize, j: usize)
     requires { Laid a (length work.old) × (pivot < a.checks) × (j < a.gross) × EndsAt a work.old pivot j }
     ensures { ColumnCleared a pivot j work.old work.new }

@@ -315,10 +315,11 @@ fn module_of(b: u8) -> u8 {
 
 // Adds the modules of a text, as far as the matrix has room.
 fn put_modules(text: &[u8], matrix: &mut Matrix) {
-    for b in text {
-        if !is_blank(*b) && !matrix.is_full() {
-            matrix.push(module_of(*b));
+    for b in text.iter().filter(|b| !is_blank(**b)) {
+        if matrix.is_full() {
+            return;
         }
+        matrix.push(module_of(*b));
     }
 }
 
