@@ -2,9 +2,10 @@
 // matrix through this crate alone; behind it lie the dense rows.
 #![tactic(auto)]
 
-ghost use Rattle.std.specs.Prelude.{◌≤◌, ◌<◌, ◌≡◌, length, MatchOption};
+ghost use Rattle.std.specs.Prelude.{◌-◌, ◌≤◌, ◌<◌, ◌≡◌, length, MatchOption};
+ghost use Rattle.symbology.specs.Ranges.{lowest, found};
 ghost use Rattle.lent.specs.Work.{Laid};
-ghost use Rattle.checks.specs.Checks.{unmet_in, InNoCheck, NextCheck, Staged, WordStaged};
+ghost use Rattle.checks.specs.Checks.{stands_in, unmet_in, InNoCheck, NextCheck, Staged, WordStaged};
 ghost use Rattle.checks.specs.Votes.{Votes, Voted};
 
 use lent::Areas;
@@ -14,7 +15,8 @@ use lent::Areas;
 #[inline(never)]
 pub fn next_check(work: &[u8], a: Areas, j: usize, from: usize) -> Option<usize>
     requires { Laid a (length work.now) × (j < a.gross) × (from ≤ a.checks) }
-    ensures { MatchOption result (InNoCheck a work.now j from a.checks) (NextCheck a work.now j from) }
+    ensures value { result ≡ found a.checks (lowest (λ i. stands_in a work.now i j) (a.checks - from) from) }
+    ensures first { MatchOption result (InNoCheck a work.now j from a.checks) (NextCheck a work.now j from) }
 {
     (from..a.checks).find(|&i| dense::bit(work, a.stride, i, j))
 }

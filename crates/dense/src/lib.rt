@@ -4,7 +4,7 @@
 // stride are arguments and no struct.
 #![tactic(auto)]
 
-ghost use Rattle.std.specs.Prelude.{◌+◌, ◌*◌, ◌/◌, ◌≤◌, ◌<◌, ◌≡◌, length, fold, zip, bit_and, bit_xor};
+ghost use Rattle.std.specs.Prelude.{◌+◌, ◌*◌, ◌/◌, ◌≤◌, ◌<◌, ◌≡◌, length};
 ghost use Rattle.symbology.specs.Ranges.{tally};
 ghost use Rattle.laws.specs.Gf2.{parity, dot};
 ghost use Rattle.dense.specs.Dense.{byte_bit, dense_bits, Turned, RowAdded, PackedIn};
@@ -59,13 +59,6 @@ fn odd_ones(x: u8) -> u8
     (x.count_ones() % 2) as u8
 }
 
-// The bits that two rows have in common, all bytes added up bit by bit without a carry.
-fn common_ones(row: &[u8], word: &[u8]) -> u8
-    ensures { result ≡ fold (λ sum p. bit_xor sum (bit_and p.0 p.1)) 0 (zip row.now word.now) }
-{
-    row.iter().zip(word).fold(0, |sum, (x, y)| sum ^ x & y)
-}
-
 // Whether the rows i and k have a 1 in an odd number of columns in common (1) or not (0). Where row k is a
 // word, that is whether the check of row i is unmet in it.
 pub fn parity(xs: &[u8], stride: usize, i: usize, k: usize) -> u8
@@ -74,5 +67,7 @@ pub fn parity(xs: &[u8], stride: usize, i: usize, k: usize) -> u8
 {
     let row = &xs[i * stride..i * stride + stride];
     let word = &xs[k * stride..k * stride + stride];
-    odd_ones(common_ones(row, word))
+    // The bits in common, all bytes added up bit by bit without a carry.
+    let common = row.iter().zip(word).fold(0, |sum, (x, y)| sum ^ x & y);
+    odd_ones(common)
 }

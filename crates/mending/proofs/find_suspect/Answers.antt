@@ -18,7 +18,7 @@ loop-i-init c = (c.bits.invariant.0, passed_start c.args.a c.args.work.now c.bit
 pub loop-i-preserved : goal.loop-i-preserved
 loop-i-preserved c =
     let passed = c.loop-i.invariant.1 in
-    let n = c.in-Some.ensures in
+    let n = c.in-Some.ensures.first in
     let mark = mark_bits c.args.a c.args.work.now c.requires.1 c.in-Some.i n.inside in (
       c.loop-i.invariant.0,
       elim c.if-work-a-eq1.branch [
@@ -41,7 +41,7 @@ bits-preserved c =
     elim c.if-a-number_at.branch [
       | then-a-number_at+in_default+else-met-unmet w ↦ (
         rw w.found-is w.loop-i.invariant.0,
-        omega (arith, passed_counts a work marked j (omega arith) w.loop-i.invariant.1 w.in_default.ensures, w.if-met-unmet.false),
+        omega (arith, passed_counts a work marked j (omega arith) w.loop-i.invariant.1 w.in_default.ensures.first, w.if-met-unmet.false),
       )
       | else-a-number_at w ↦ (
         rw w.found-is c.bits.invariant.0,
@@ -54,7 +54,7 @@ pub returns-then-met-unmet : goal.returns-then-met-unmet
 returns-then-met-unmet c =
     let a = c.args.a in
     let work = c.args.work.now in
-    let counts = passed_counts a work c.requires.1 c.bits.j (omega arith) c.loop-i.invariant.1 c.in_default.ensures in
+    let counts = passed_counts a work c.requires.1 c.bits.j (omega arith) c.loop-i.invariant.1 c.in_default.ensures.first in
     record {
       inside = omega (arith, length_part work a.word a.gross (omega (arith, c.requires.0)));
       suspected = omega (arith, counts);
