@@ -17,13 +17,13 @@
 // has 53,964 bytes, with which no greater C passes test 5.
 #![tactic(auto)]
 
-ghost use Rattle.std.specs.Prelude.{◌+◌, ◌≤◌, ◌<◌};
+ghost use Rattle.std.specs.Prelude.{◌+◌, ◌≤◌, ◌<◌, length, IfSome};
 ghost use Rattle.arrayvec.specs.ArrayVec.{array_vec_len};
 
 use arrayvec::ArrayVec;
 use calls::ReadAnswer;
 use program_calls::{Limited, within_limit};
-use program_input::{argument, read_full};
+use program_input::read_full;
 use std::env::{Env, FillError};
 use std::fmt::Display;
 use std::io;
@@ -58,6 +58,14 @@ fn grow(n: u32, digit: u8) -> u32 {
 
 fn decimal(text: &[u8]) -> u32 {
     text.iter().fold(0, |n, digit| grow(n, *digit))
+}
+
+// Stores argument i and answers its length, where it is not missing, not empty and not longer than the
+// buffer. The length and no slice: a part lent out of it would need a clause on what it lends.
+fn argument(rt: &impl Env, i: usize, buffer: &mut [u8]) -> Option<usize>
+    ensures { IfSome result (λ n. (0 < n) × (n ≤ length buffer.new)) }
+{
+    rt.arg(i, buffer).ok().filter(|n| 0 < *n)
 }
 
 // The number that argument i writes, if it is not missing, empty or longer than 16 bytes.

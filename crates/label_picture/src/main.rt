@@ -9,7 +9,7 @@
 
 ghost use Rattle.std.specs.Prelude.{◌+◌, ◌*◌, ◌^◌, ◌≤◌, ◌<◌, ◌≡◌, length};
 
-use program_input::{argument, read_full};
+use program_input::read_full;
 use std::env::Env;
 use std::io;
 
@@ -122,7 +122,7 @@ fn side(modules: usize) -> usize
 // The colour of an index that an argument gives.
 fn colour(rt: &impl Env, i: usize) -> Option<u8> {
     let mut text = [0u8; 16];
-    argument(rt, i, &mut text)?;
+    rt.arg(i, &mut text).ok().filter(|n| 0 < *n)?;
     Some(text[0] % 8)
 }
 

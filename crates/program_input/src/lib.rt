@@ -1,10 +1,10 @@
 // What programs read their input with.
 #![tactic(auto)]
 
-ghost use Rattle.std.specs.Prelude.{◌≤◌, ◌<◌, length, take, IfOk, IfSome};
+ghost use Rattle.std.specs.Prelude.{◌≤◌, ◌<◌, length, take, IfOk, IfSome, OnErr};
 ghost use Rattle.std.specs.Io.KnownBytes.{Consumes, IsAtEnd};
+ghost use Rattle.program_input.specs.Reading.{CutShort, FilledFrom};
 
-use std::env::Env;
 use std::io;
 use std::io::Read;
 
@@ -14,6 +14,9 @@ pub fn read_full<R: Read>(input: &mut R, buffer: &mut [u8]) -> io::Result<usize>
     ensures inside { IfOk result (λ n. n ≤ length buffer.new) }
     ensures bytes { IfOk result (λ n. Consumes (R.remaining input.old) (R.remaining input.new) (take n buffer.new)) }
     ensures end { IfOk result (λ n. n < length buffer.new → IsAtEnd (R.remaining input.new)) }
+    ensures known { IfOk result (λ n. IfSome (R.remaining input.old)
+        (λ xs. FilledFrom xs (R.remaining input.new) buffer.new n)) }
+    ensures failed { OnErr result (CutShort (R.remaining input.old) (R.remaining input.new) buffer.new) }
 {
     let mut done = 0;
     while done < buffer.len() {
@@ -24,12 +27,4 @@ pub fn read_full<R: Read>(input: &mut R, buffer: &mut [u8]) -> io::Result<usize>
         done += n;
     }
     Ok(done)
-}
-
-// Stores argument i and answers its length, where it is not missing, not empty and not longer than the
-// buffer. The length and no slice: a part lent out of the buffer would need a clause on what it lends.
-pub fn argument(rt: &impl Env, i: usize, buffer: &mut [u8]) -> Option<usize>
-    ensures { IfSome result (λ n. (0 < n) × (n ≤ length buffer.new)) }
-{
-    rt.arg(i, buffer).ok().filter(|n| 0 < *n)
 }

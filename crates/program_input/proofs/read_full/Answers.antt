@@ -1,11 +1,13 @@
--- What a read gave goes on behind what came before.
-use Rattle.std.proofs.Common.{ℕ, List, ◌≡◌, ◌+◌, ◌≤◌, ◌++◌, rules, length, take, drop, sym, ap, ◌∙◌, subst, le_refl}
+-- What a read gave goes on behind what came before. Where the bytes are known, the clauses on what came leave no choice.
+use Rattle.std.proofs.Common.{ℕ, List, ◌≡◌, ◌+◌, ◌≤◌, ◌<◌, ◌++◌, Option, None, Some, IfSome, arith, rules, length, take, drop}
+use Rattle.std.proofs.Common.{min, sym, ap, ◌∙◌, subst, le_refl, length-append}
 use Rattle.std.proofs.Common.{drop_at, length-take-le}
 use Rattle.std.proofs.lemmas.Slice.{take-put_mid_below}
-use Rattle.std.specs.Io.KnownBytes.{Consumes}
+use Rattle.std.specs.Io.KnownBytes.{Consumes, IsAtEnd}
 use Rattle.std.proofs.KnownBytes.{Consumes-trans}
 use borrow.Rule.Slice.PartMut.{put_mid, post_of}
-use lib.Seq.{take-add, take-append-le}
+use lib.Seq.{take-add, take-append-le, take-append_seam, drop-append_seam}
+use Rattle.program_input.specs.Reading.{FilledFrom}
 use Rattle.program_input.proofs.read_full.Goals as goal
 
 module _ (d k n : ℕ) (xs ys : List ℕ) (within : d ≤ length xs) (fits : n ≤ length ys) where
@@ -19,9 +21,33 @@ module _ (d k n : ℕ) (xs ys : List ℕ) (within : d ≤ length xs) (fits : n �
       let back = ap (take n) behind ∙ take-append-le n ys after fits in
       take-add d n written ∙ ap (λ l. l ++ take n (drop d written)) front ∙ ap (λ l. take d xs ++ l) back
 
+-- what came is in the list, with what a read gave behind it
+goes_on : (d k n : ℕ) (xs ys : List ℕ) (a b c : Option (List ℕ)) → Consumes a b (take d xs) → Consumes b c (take n ys)
+    → d ≤ length xs → n ≤ length ys → Consumes a c (take (d + n) (put_mid d k xs ys))
+goes_on d k n xs ys a b c before given within fits =
+    subst (Consumes a c) (sym (take-put_mid_part d k n xs ys within fits)) (Consumes-trans a b c _ _ before given)
+
 pub loop-done-preserved : goal.loop-done-preserved
-loop-done-preserved g c =
-    let before = c.loop-done.invariant in
-    let given = c.in_ok-n.ensures in
-    let part = take-put_mid_part c.loop-done.done _ c.in_ok-n.n c.loop-done.buffer c.read.new.buf before.0 given.bound.0 in
-    (search rules, subst (Consumes _ _) (sym part) (Consumes-trans _ _ _ _ _ before.1 given.bytes.0))
+loop-done-preserved g c = search (rules, goes_on)
+
+-- a count that is the whole room, or all that there is
+count_of : (n room all rest : ℕ) → n ≤ room → all ≡ n + rest → (n < room → rest ≡ 0) → n ≡ min room all
+count_of n room all rest within total none = grind arith
+
+-- what came of known bytes, where the buffer is full or none is left
+filled_from : (n : ℕ) (old left : Option (List ℕ)) (buffer : List ℕ) → n ≤ length buffer → Consumes old left (take n buffer)
+    → (n < length buffer → IsAtEnd left) → IfSome old (λ xs. FilledFrom xs left buffer n)
+filled_from n None left buffer within came end = tt
+filled_from n (Some xs) None buffer within came end = absurd came
+filled_from n (Some xs) (Some ys) buffer within came end =
+    let long : length (take n buffer) ≡ n = length-take-le n buffer within in
+    let total : length xs ≡ n + length ys = ap length came ∙ length-append (take n buffer) ys ∙ ap (λ k. k + length ys) long in
+    let rest : ys ≡ drop n xs = cc (drop-append_seam (take n buffer) ys) in
+    record {
+      count = count_of n (length buffer) (length xs) (length ys) within total (λ h. ap length (end h));
+      front = cc (take-append_seam (take n buffer) ys);
+      rest = ap Some rest;
+    }
+
+pub returns-after-loop-done-clause-known : goal.returns-after-loop-done-clause-known
+returns-after-loop-done-clause-known g c = search (rules, filled_from)
