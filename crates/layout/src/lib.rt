@@ -192,6 +192,7 @@ pub fn fill(p: Params, list: &[u16], bits: &[u8], matrix: &mut [u8])
     let symbol = Symbol::of(p, list);
     let mut k = 0;
     for c in 0..symbol.columns() {
+        // k data modules are filled before column c.
         for r in 0..symbol.rows() {
             k = symbol.fill_module(bits, matrix, c, r, k);
         }
@@ -207,6 +208,7 @@ pub fn sample(p: Params, list: &[u16], matrix: &[u8], out: &mut [u8])
     let symbol = Symbol::of(p, list);
     let mut k = 0;
     for c in 0..symbol.columns() {
+        // k data modules are sampled before column c.
         for r in 0..symbol.rows() {
             k = symbol.sample_module(matrix, out, c, r, k);
         }

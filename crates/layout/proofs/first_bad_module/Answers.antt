@@ -11,6 +11,9 @@ use Rattle.layout.proofs.first_bad_module.Goals as goal
 pub returns : goal.returns
 unfolding first_bad_module
 returns c =
+    let m = c.args.matrix.now in
+    let at =
     position_from_yields_List (λ x. leb c.args.colours x) _ _ c.position.result c.position.ensures.ran
-    (YieldsList-from_slice c.args.matrix.now cc) (λ x b q k. search rules)
-    ∙ sym (search_list (λ x. leb c.args.colours x) c.args.matrix.now)
+    (YieldsList-from_slice m cc) (λ x b q k. search rules)
+    ∙ sym (search_list (λ x. leb c.args.colours x) m) in
+    search (rules, at)

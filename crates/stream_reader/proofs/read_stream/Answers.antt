@@ -1,4 +1,5 @@
 use mathlib.Core.Path.{sym, ◌∙◌}
+use Rattle.std.proofs.Common.{rules}
 use Rattle.pieces.proofs.Pieces.{same_piece}
 use Rattle.stream_reader.proofs.Reading.{Coded, stands_first, stands_short, stands_next, stands_stop}
 use Rattle.stream_reader.proofs.read_stream.Goals as goal
@@ -33,12 +34,16 @@ returns-then-left-width c =
 pub returns-in_default : goal.returns-in_default
 returns-in_default c =
     let switch_of = c.switch_of-answer in
+    let stop =
     stands_stop c.loop-mode.invariant
     (coded (goal.at.returns-in_default c).After-slice_known-in-loop-mode-1) switch_of.result switch_of.ensures
-    c.in_default.not-Next c.end_by_code-end.ensures
+    c.in_default.not-Next c.end_by_code-end.ensures in
+    search (rules, stop)
 
 pub loop-mode-preserved : goal.loop-mode-preserved
 loop-mode-preserved c =
     let switch_of = c.switch_of-answer in
+    let next =
     stands_next c.loop-mode.invariant (coded (goal.at.loop-mode-preserved c).After-slice_known-in-loop-mode-1) c.in-Next.next c.in-Next.owed
-    (sym switch_of.ensures ∙ c.in-Next.is)
+    (sym switch_of.ensures ∙ c.in-Next.is) in
+    search (rules, next)

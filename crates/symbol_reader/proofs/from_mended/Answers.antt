@@ -1,16 +1,18 @@
 -- `symbol_reader::from_mended` meets its contract: what the accepted word gives, and on 0 the places from their area. Assumes nothing.
 use mathlib.Core.Path.{refl}
+use native.Mathlib.Omega.{arith}
+use Rattle.lent.proofs.Work.{repaired_inside, room_laid}
 use Rattle.std.proofs.lemmas.Result.{err_from_is_err_and}
 use Rattle.calls.specs.Read.{message_in_accepted}
 use Rattle.lent.specs.Buffer.{numbers_at}
 use Rattle.lent.specs.Work.{word_in}
-use Rattle.symbol_reader.proofs.Reading.{places_inside, stored_places, refused_mended}
+use Rattle.symbol_reader.proofs.Reading.{stored_places, refused_mended}
 use Rattle.symbol_reader.proofs.from_mended.Goals as goal
 
 pub copy_numbers-requires : goal.copy_numbers-requires
 copy_numbers-requires c =
     let pre = c.requires in
-    (places_inside pre.0 c.args.mended.repairs pre.2 c.from_accepted.ensures.kept, pre.3)
+    (omega (arith, repaired_inside (room_laid pre.0), pre.2), pre.3)
 
 pub returns-in_err-length : goal.returns-in_err-length
 returns-in_err-length c =
