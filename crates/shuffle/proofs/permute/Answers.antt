@@ -1,6 +1,7 @@
 use Prim.Native.Nat.{◌<◌}
 use mathlib.Core.Path.{◌≡◌, sym, ◌∙◌}
 use native.Mathlib.Omega.{arith}
+use Rattle.std.proofs.Common.{rules}
 use Rattle.draws.proofs.States.{after_none, after_turn}
 use Rattle.shuffle.proofs.Items.{items_none, items_turn}
 use Rattle.shuffle.proofs.permute.Goals as goal
@@ -9,8 +10,7 @@ pub loop-last-preserved : goal.loop-last-preserved
 loop-last-preserved g c =
     let now = c.loop-last in
     let some : 0 < now.last = omega arith in (
-      rw (c.exchange.ensures, c.drawn_place.ensures.0, c.next_state-s.ensures)
-          (items_turn g.row.WIDTH c.args.at now.last now.s now.xs some ∙ now.invariant.0),
+      search (rules, items_turn g.row.WIDTH c.args.at now.last now.s now.xs some ∙ now.invariant.0),
       rw c.next_state-s.ensures (after_turn now.last now.s some ∙ now.invariant.1),
     )
 
