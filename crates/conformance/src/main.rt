@@ -23,13 +23,15 @@
 // its limit, or another wc or wr prints `bad case`. Of the input the first 655,360 bytes are read.
 #![tactic(auto)]
 
-ghost use Rattle.std.specs.Prelude.{◌≤◌, ◌<◌, ◌≡◌, length, IfSome};
+ghost use Rattle.std.specs.Prelude.{◌≤◌, ◌<◌, ◌≡◌, length, take, IfOk, IfSome, OnErr};
+ghost use Rattle.std.specs.Io.KnownBytes.{Consumes, IsAtEnd};
+ghost use Rattle.program_input.specs.Reading.{CutShort, FilledFrom};
 
 use calls::ReadAnswer;
 use program_calls::{Limited, within_limit};
-use program_input::read_full;
 use std::fmt::Display;
 use std::io;
+use std::io::Read;
 use symbology::Params;
 
 // A byte that a call stores to, before the call, and a number of the slice for places.
@@ -344,6 +346,27 @@ fn input_buffer() -> [u8; 655360]
     ensures { 655360 ≡ length result }
 {
     [0; 655360]
+}
+
+// Reads until the buffer is full or the input ends, and answers how many bytes came. A read gives as many as
+// it likes, so that a `for` could only count the reads.
+fn read_full<R: Read>(input: &mut R, buffer: &mut [u8]) -> io::Result<usize>
+    ensures inside { IfOk result (λ n. n ≤ length buffer.new) }
+    ensures bytes { IfOk result (λ n. Consumes (R.remaining input.old) (R.remaining input.new) (take n buffer.new)) }
+    ensures end { IfOk result (λ n. n < length buffer.new → IsAtEnd (R.remaining input.new)) }
+    ensures known { IfOk result (λ n. IfSome (R.remaining input.old)
+        (λ xs. FilledFrom xs (R.remaining input.new) buffer.new n)) }
+    ensures failed { OnErr result (CutShort (R.remaining input.old) (R.remaining input.new) buffer.new) }
+{
+    let mut done = 0;
+    while done < buffer.len() {
+        let n = input.read(&mut buffer[done..])?;
+        if n == 0 {
+            break;
+        }
+        done += n;
+    }
+    Ok(done)
 }
 
 fn main(rt: HostRuntime) -> io::Result<()> {

@@ -17,13 +17,14 @@
 // has 53,964 bytes, with which no greater C passes test 5.
 #![tactic(auto)]
 
-ghost use Rattle.std.specs.Prelude.{◌+◌, ◌≤◌, ◌<◌, length, IfSome};
+ghost use Rattle.std.specs.Prelude.{◌+◌, ◌≤◌, ◌<◌, length, take, IfOk, IfSome, OnErr};
+ghost use Rattle.std.specs.Io.KnownBytes.{Consumes, IsAtEnd};
+ghost use Rattle.program_input.specs.Reading.{CutShort, FilledFrom};
 ghost use Rattle.arrayvec.specs.ArrayVec.{array_vec_len};
 
 use arrayvec::ArrayVec;
 use calls::ReadAnswer;
 use program_calls::{Limited, within_limit};
-use program_input::read_full;
 use std::env::{Env, FillError};
 use std::fmt::Display;
 use std::io;
@@ -293,6 +294,27 @@ fn write_record(
     }
     as_digits(matrix);
     print_rows(rt, matrix, side(p.horizontal))
+}
+
+// Reads until the buffer is full or the input ends, and answers how many bytes came. A read gives as many as
+// it likes, so that a `for` could only count the reads.
+fn read_full<R: Read>(input: &mut R, buffer: &mut [u8]) -> io::Result<usize>
+    ensures inside { IfOk result (λ n. n ≤ length buffer.new) }
+    ensures bytes { IfOk result (λ n. Consumes (R.remaining input.old) (R.remaining input.new) (take n buffer.new)) }
+    ensures end { IfOk result (λ n. n < length buffer.new → IsAtEnd (R.remaining input.new)) }
+    ensures known { IfOk result (λ n. IfSome (R.remaining input.old)
+        (λ xs. FilledFrom xs (R.remaining input.new) buffer.new n)) }
+    ensures failed { OnErr result (CutShort (R.remaining input.old) (R.remaining input.new) buffer.new) }
+{
+    let mut done = 0;
+    while done < buffer.len() {
+        let n = input.read(&mut buffer[done..])?;
+        if n == 0 {
+            break;
+        }
+        done += n;
+    }
+    Ok(done)
 }
 
 // Writes a record. One that fills its buffer has no room in any symbol, whatever stands behind it.

@@ -7,11 +7,13 @@
 // zlib for each row of pixels, each in a chunk of its own.
 #![tactic(auto)]
 
-ghost use Rattle.std.specs.Prelude.{◌+◌, ◌*◌, ◌^◌, ◌≤◌, ◌<◌, ◌≡◌, length};
+ghost use Rattle.std.specs.Prelude.{◌+◌, ◌*◌, ◌^◌, ◌≤◌, ◌<◌, ◌≡◌, length, take, IfOk, IfSome, OnErr};
+ghost use Rattle.std.specs.Io.KnownBytes.{Consumes, IsAtEnd};
+ghost use Rattle.program_input.specs.Reading.{CutShort, FilledFrom};
 
-use program_input::read_full;
 use std::env::Env;
 use std::io;
+use std::io::Read;
 
 // Pixels along a module, and white modules on each side.
 const SCALE: usize = 8;
@@ -210,6 +212,27 @@ fn print_picture(rt: &(impl Print + Env), text: &[u8]) -> io::Result<()>
     picture.print_lines(rt, text, columns)?;
     picture.print_quiet(rt)?;
     print_back(rt, picture.adler)
+}
+
+// Reads until the buffer is full or the input ends, and answers how many bytes came. A read gives as many as
+// it likes, so that a `for` could only count the reads.
+fn read_full<R: Read>(input: &mut R, buffer: &mut [u8]) -> io::Result<usize>
+    ensures inside { IfOk result (λ n. n ≤ length buffer.new) }
+    ensures bytes { IfOk result (λ n. Consumes (R.remaining input.old) (R.remaining input.new) (take n buffer.new)) }
+    ensures end { IfOk result (λ n. n < length buffer.new → IsAtEnd (R.remaining input.new)) }
+    ensures known { IfOk result (λ n. IfSome (R.remaining input.old)
+        (λ xs. FilledFrom xs (R.remaining input.new) buffer.new n)) }
+    ensures failed { OnErr result (CutShort (R.remaining input.old) (R.remaining input.new) buffer.new) }
+{
+    let mut done = 0;
+    while done < buffer.len() {
+        let n = input.read(&mut buffer[done..])?;
+        if n == 0 {
+            break;
+        }
+        done += n;
+    }
+    Ok(done)
 }
 
 fn main(rt: HostRuntime) -> io::Result<()> {

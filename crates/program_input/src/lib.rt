@@ -1,30 +1,4 @@
-// What programs read their input with.
+// What a program's read of its input gives, in specs/, and laws about it, in proofs/. The function itself stands
+// in each program, since std does not say which reads fail: a public one could not fix what it answers. This
+// crate has no functions.
 #![tactic(auto)]
-
-ghost use Rattle.std.specs.Prelude.{◌≤◌, ◌<◌, length, take, IfOk, IfSome, OnErr};
-ghost use Rattle.std.specs.Io.KnownBytes.{Consumes, IsAtEnd};
-ghost use Rattle.program_input.specs.Reading.{CutShort, FilledFrom};
-
-use std::io;
-use std::io::Read;
-
-// Reads until the buffer is full or the input ends, and answers how many bytes came. A read gives as many as
-// it likes, so that a `for` could only count the reads.
-pub fn read_full<R: Read>(input: &mut R, buffer: &mut [u8]) -> io::Result<usize>
-    ensures inside { IfOk result (λ n. n ≤ length buffer.new) }
-    ensures bytes { IfOk result (λ n. Consumes (R.remaining input.old) (R.remaining input.new) (take n buffer.new)) }
-    ensures end { IfOk result (λ n. n < length buffer.new → IsAtEnd (R.remaining input.new)) }
-    ensures known { IfOk result (λ n. IfSome (R.remaining input.old)
-        (λ xs. FilledFrom xs (R.remaining input.new) buffer.new n)) }
-    ensures failed { OnErr result (CutShort (R.remaining input.old) (R.remaining input.new) buffer.new) }
-{
-    let mut done = 0;
-    while done < buffer.len() {
-        let n = input.read(&mut buffer[done..])?;
-        if n == 0 {
-            break;
-        }
-        done += n;
-    }
-    Ok(done)
-}

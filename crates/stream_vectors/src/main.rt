@@ -8,11 +8,13 @@
 // mark. No symbol is made, and no work buffer lent.
 #![tactic(auto)]
 
-ghost use Rattle.std.specs.Prelude.{◌+◌, ◌≤◌, ◌<◌, ◌≡◌, length};
+ghost use Rattle.std.specs.Prelude.{◌+◌, ◌≤◌, ◌<◌, ◌≡◌, length, take, IfOk, IfSome, OnErr};
+ghost use Rattle.std.specs.Io.KnownBytes.{Consumes, IsAtEnd};
+ghost use Rattle.program_input.specs.Reading.{CutShort, FilledFrom};
 ghost use Rattle.symbology.specs.Stream.{stream_of};
 
-use program_input::read_full;
 use std::io;
+use std::io::Read;
 
 // The bytes of a line that count. Of a longer one the next byte is passed over, and the rest taken as a
 // line of its own. The functions of a line ask for that bound, which a type for a line would only carry.
@@ -123,6 +125,27 @@ fn run_line(rt: &impl Print, line: &[u8], buffers: &mut Buffers) -> io::Result<(
         [b'w', _, message @ ..] => write_line(rt, message, buffers),
         _ => Ok(()),
     }
+}
+
+// Reads until the buffer is full or the input ends, and answers how many bytes came. A read gives as many as
+// it likes, so that a `for` could only count the reads.
+fn read_full<R: Read>(input: &mut R, buffer: &mut [u8]) -> io::Result<usize>
+    ensures inside { IfOk result (λ n. n ≤ length buffer.new) }
+    ensures bytes { IfOk result (λ n. Consumes (R.remaining input.old) (R.remaining input.new) (take n buffer.new)) }
+    ensures end { IfOk result (λ n. n < length buffer.new → IsAtEnd (R.remaining input.new)) }
+    ensures known { IfOk result (λ n. IfSome (R.remaining input.old)
+        (λ xs. FilledFrom xs (R.remaining input.new) buffer.new n)) }
+    ensures failed { OnErr result (CutShort (R.remaining input.old) (R.remaining input.new) buffer.new) }
+{
+    let mut done = 0;
+    while done < buffer.len() {
+        let n = input.read(&mut buffer[done..])?;
+        if n == 0 {
+            break;
+        }
+        done += n;
+    }
+    Ok(done)
 }
 
 fn main(rt: HostRuntime) -> io::Result<()> {

@@ -1,8 +1,8 @@
--- `program_input::read_full` meets its contract. The invariant: what was read lies in the buffer, and the input had it in front of what
+-- `stream_vectors::read_full` meets its contract. The invariant: what was read lies in the buffer, and the input had it in front of what
 -- it has left. What falls: the bytes of the buffer not filled yet. Assumes nothing.
 use Rattle.std.proofs.Common.{◌-◌, ◌≤◌, length, take}
 use Rattle.std.specs.Io.KnownBytes.{Consumes}
-use Rattle.program_input.proofs.read_full.Given as goal
+use Rattle.stream_vectors.proofs.read_full.Given as goal
 
 abbrev pub invariant-loop-done : goal.invariant-loop-done
 invariant-loop-done g l =
