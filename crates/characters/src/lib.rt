@@ -4,7 +4,7 @@
 ghost use Rattle.std.specs.Prelude.{◌≡◌, [], ◌∷◌, take, drop};
 ghost use Rattle.symbology.specs.Characters.{punctuation_characters, mixed_characters, character_bytes};
 ghost use Rattle.symbology.specs.Modes.{characters_of, bytes_of};
-ghost use Rattle.characters.specs.Bytes.{bytes_in};
+ghost use Rattle.characters.specs.Bytes.{bytes_in, is_byte, is_run};
 
 use std::slice;
 use symbology::{Expected, Mode};
@@ -83,10 +83,11 @@ fn mixed_bytes(v: u32) -> &'static [u8]
     }
 }
 
-// The bytes that the code of value v gives.
+// The bytes that the code of value v gives: a byte of a run as a byte, and all others as characters.
 #[tactic(auto, unfolding(symbology::specs::Modes::bytes_of, symbology::specs::Modes::characters_of))]
 pub fn bytes_of(m: Mode, e: Expected, v: u32) -> CodeBytes
-    ensures { bytes_in result ≡ bytes_of m e v }
+    ensures bytes { bytes_in result ≡ bytes_of m e v }
+    ensures form { is_byte result ≡ is_run e }
 {
     match e {
         Expected::Latched => CodeBytes::Character(latched_bytes(m, v)),

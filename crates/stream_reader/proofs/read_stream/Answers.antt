@@ -18,7 +18,7 @@ coded c =
       width = c.code_width-width.ensures;
       whole = c.if-left-width.false;
       number = c.bits_value-v.ensures;
-      piece = same_piece (c.as_slice.ensures ∙ c.bytes_of-bytes.ensures) c.put_all-count.ensures;
+      piece = same_piece (c.as_slice.ensures ∙ c.bytes_of-bytes.ensures.bytes) c.put_all-count.ensures;
     }
 
 pub loop-mode-init : goal.loop-mode-init
