@@ -37,7 +37,7 @@ use Rattle.lent.specs.Changes.{Changed}
 use Rattle.lent.specs.Buffer.{numbers_at}
 use Rattle.lent.specs.Work.{rows_span, marks_span, numbers_span, net_span, RoomFor, word_in, net_in}
 use Rattle.lent.proofs.Buffer.{numbers_same}
-use Rattle.lent.proofs.Work.{room_laid, net_areas}
+use Rattle.lent.proofs.Work.{repaired_inside, room_laid, net_areas}
 use Rattle.coding.specs.Stages.{WordMended, MessageTaken}
 use Rattle.ldpc.proofs.Stages.{checks_for_lem, message_for}
 use Rattle.stream_reader.specs.Reading.{NetRead}
@@ -132,7 +132,11 @@ module _ {s : Sizes} {a : Areas} {room : ℕ} {before after : List ℕ} {spare :
 
 module _ {s : Sizes} {a : Areas} {before after : List ℕ} (r : RoomFor s a (length before)) (n : ℕ) (few : n ≤ a.checks)
     (c : Changed (rows_span a ∷ marks_span a ∷ numbers_span a ∷ net_span a ∷ []) before after) where
-  -- they are there as they were
+  -- they lie in the buffer that the message was taken into
+  pub places_inside : a.repaired + 2 * n ≤ length after
+  places_inside = omega (arith, repaired_inside (room_laid r), c.long)
+
+  -- and are there as they were
   places_kept : numbers_at after a.repaired n ≡ numbers_at before a.repaired n
   places_kept = let laid = room_laid r in numbers_same before after a.repaired n (λ i l g. c.kept i (omega arith))
 
