@@ -1,6 +1,6 @@
-// What a program reads its input with. std does not say which reads fail, and of an argument a bound of its length
-// alone: the two functions leave that open. So no program of this repository rests on them; each has its own, with
-// the definitions of specs/ and the laws of proofs/.
+// What a program reads its input with. std does not say which reads fail, and of an argument it says only that its
+// length fits the buffer: the two functions leave the rest open. So no program of this repository rests on them; each
+// has what it needs of them itself, with the definitions of specs/ and the laws of proofs/.
 #![tactic(auto)]
 
 ghost use Rattle.std.specs.Prelude.{◌≤◌, ◌<◌, length, take, IfOk, IfSome, OnErr};
